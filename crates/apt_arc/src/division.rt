@@ -41,7 +41,7 @@ pub fn chords(arc: &Arc, room: u64, out: &mut Vec<Pt>) -> Result<(), ArcError>
     ensures only { (list : List Pt) → IsDivision arc.now list → list ≡ divided arc.now }
     ensures short { (k : ℕ) → unsigned_abs arc.now.track.r ≤ 3 ^ k * unsigned_abs arc.now.sag → length (divided arc.now) ≤ 5 * 2 ^ k }
 {
-    append_all(arc, room, out)
+    chords_value(arc, room, out)
 }
 
 /// The number of vertices of an arc behind its start, which [`chords`] appends.
@@ -98,7 +98,7 @@ fn bound_from(arc: &Arc, from: Pt, u: Dir, left: u8) -> u64
 
 /// The vertices are made once, where there is room for them already; else twice, behind room for them all.
 #[tactic(auto, using(crate::proofs::Rooms::all_there, crate::proofs::Rooms::as_before))]
-fn append_all(arc: &Arc, room: u64, out: &mut Vec<Pt>) -> Result<(), ArcError>
+fn chords_value(arc: &Arc, room: u64, out: &mut Vec<Pt>) -> Result<(), ArcError>
     requires arc { IsArc arc.now }
     ensures ok { OnOk result (out.new.items ≡ out.old.items ++ divided arc.now) }
     ensures too_many { IsErrOf result ArcError.TooManyPoints ↔ (room < length (divided arc.now)) }

@@ -5,7 +5,7 @@ use Rattle.apt_shelf.specs.Told.{Contents}
 use Rattle.apt_report.specs.declared.status.Status.{Status}
 use Rattle.apt_report.specs.declared.status.Status.TheVariants as answers
 use Rattle.apt_report.specs.declared.status.Summary.{Summary}
-use Rattle.apt_core.specs.Words.{FourNames, Ask, Compile}
+use Rattle.apt_core.specs.Words.{FourNames, Work, Compile}
 use Rattle.apt_core.specs.Inputs.{Input, Files, part_inputs, ReadsAll, IsUnread, IsFirstUnread, IsShort, IsStopped}
 use Rattle.apt_core.specs.Outputs.{Output}
 use Rattle.apt_core.specs.Decoding.{Said}
@@ -72,8 +72,8 @@ said_done said answer s before after puts done = elim puts.shows [
   | inr front ↦ absurd (short_not_done answers.WriteFault before.put_faults after.put_faults answer s (λ e. let f : ⊥ = cc in f) front.0 done)
 ]
 
-pub done_has_compiled : (n : FourNames) (ask : Option Ask) (m later : Contents) (before after : Outside) (s : Summary) (answer : Status) → IsRun ask before after answer
-    → ask ≡ Some (Compile n) → answer ≡ answers.Done s → before.files.told ≡ Some m → after.files.told ≡ Some later → HasCompiled n m later
-done_has_compiled n ask m later before after s answer run asks done held holds =
+pub done_has_compiled : (n : FourNames) (work : Option Work) (m later : Contents) (before after : Outside) (s : Summary) (answer : Status) → IsRun work before after answer
+    → work ≡ Some (Compile n) → answer ≡ answers.Done s → before.files.told ≡ Some m → after.files.told ≡ Some later → HasCompiled n m later
+done_has_compiled n work m later before after s answer run asks done held holds =
     let works = subst (λ a. Works a before.files after.files run.said) asks run.works in
     compiles_done n before.files after.files m later s run.said.answer (said_done run.said answer s before.lines after.lines run.puts done) held holds works.1

@@ -3,7 +3,7 @@
 
 ghost use Rattle.std.specs.Prelude.{◌≡◌, Some, IsTrue};
 ghost use Rattle.apt_shelf.specs.Memory.{files_of};
-ghost use Rattle.apt_core.specs.Words.{FourNames, Compile, asked, texts};
+ghost use Rattle.apt_core.specs.Words.{FourNames, Compile, work_in, texts};
 ghost use Rattle.apt_calling.specs.Calling.{HasCompiled};
 
 use apt_core::{OpenGate, Status, apt};
@@ -19,7 +19,7 @@ pub fn compiles(
     shelf: &mut MemShelf,
     line: &mut MemSink,
 ) -> bool
-    ensures { IsTrue result → (n : FourNames) → asked (texts words.now) ≡ Some (Compile n) → HasCompiled n (files_of shelf.old) (files_of shelf.new) }
+    ensures { IsTrue result → (n : FourNames) → work_in (texts words.now) ≡ Some (Compile n) → HasCompiled n (files_of shelf.old) (files_of shelf.new) }
 {
     match apt(rt, alloc, words, shelf, line, &OpenGate) {
         Status::Done(_) => true,

@@ -32,17 +32,17 @@ pub fn line_circle(l: &Moved, c: &Circ, sigma: i8) -> Result<Pt, FormFault>
     ensures on_circle { IfOk result (λ p. IsNearCircle c.now (pos 1) p) }
     ensures along { IfOk result (λ p. IsFurther l.now.line c.now sigma p) }
 {
-    meet_line(l, c, sigma)
+    line_circle_value(l, c, sigma)
 }
 
-fn meet_line(l: &Moved, c: &Circ, sigma: i8) -> Result<Pt, FormFault>
+fn line_circle_value(l: &Moved, c: &Circ, sigma: i8) -> Result<Pt, FormFault>
     requires line { IsMoved l.now }
     requires circle { IsRound c.now }
     requires sense { IsSense sigma }
     ensures { result ≡ circles.line_circle l.now.line l.now.off c.now sigma }
 {
     if reaches(l, c) {
-        within(on_chord(l, c, sigma))
+        within(line_circle_point_value(l, c, sigma))
     } else {
         Err(FormFault::NoMeeting)
     }
@@ -59,10 +59,10 @@ pub fn line_circle_point(l: &Moved, c: &Circ, sigma: i8) -> Pt
     ensures on_circle { IsNearCircle c.now (pos 1) result }
     ensures along { IsFurther l.now.line c.now sigma result }
 {
-    on_chord(l, c, sigma)
+    line_circle_point_value(l, c, sigma)
 }
 
-fn on_chord(l: &Moved, c: &Circ, sigma: i8) -> Pt
+fn line_circle_point_value(l: &Moved, c: &Circ, sigma: i8) -> Pt
     requires line { IsMoved l.now }
     requires circle { IsRound c.now }
     requires sense { IsSense sigma }
@@ -130,10 +130,10 @@ pub fn circle_circle(a: &Circ, b: &Circ, sigma: i8) -> Result<Pt, FormFault>
     ensures on_b { IfOk result (λ p. IsNearCircle b.now (pos 1) p) }
     ensures across { IfOk result (λ p. IsBeyond a.now b.now sigma p) }
 {
-    meet_circle(a, b, sigma)
+    circle_circle_value(a, b, sigma)
 }
 
-fn meet_circle(a: &Circ, b: &Circ, sigma: i8) -> Result<Pt, FormFault>
+fn circle_circle_value(a: &Circ, b: &Circ, sigma: i8) -> Result<Pt, FormFault>
     requires a { IsRound a.now }
     requires b { IsRound b.now }
     requires a_least { pos 100 ≤ℤ a.now.r }
@@ -145,7 +145,7 @@ fn meet_circle(a: &Circ, b: &Circ, sigma: i8) -> Result<Pt, FormFault>
     if square == 0 {
         Err(FormFault::Degenerate)
     } else if overlap(a.r, b.r, square) {
-        within(on_common_chord(a, b, sigma))
+        within(circle_circle_point_value(a, b, sigma))
     } else {
         Err(FormFault::NoMeeting)
     }
@@ -165,10 +165,10 @@ pub fn circle_circle_point(a: &Circ, b: &Circ, sigma: i8) -> Pt
     ensures on_b { IsNearCircle b.now (pos 1) result }
     ensures across { IsBeyond a.now b.now sigma result }
 {
-    on_common_chord(a, b, sigma)
+    circle_circle_point_value(a, b, sigma)
 }
 
-fn on_common_chord(a: &Circ, b: &Circ, sigma: i8) -> Pt
+fn circle_circle_point_value(a: &Circ, b: &Circ, sigma: i8) -> Pt
     requires a { IsRound a.now }
     requires b { IsRound b.now }
     requires a_least { pos 100 ≤ℤ a.now.r }

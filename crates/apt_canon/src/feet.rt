@@ -95,10 +95,10 @@ pub fn parallel_at(l: &Line, pick: Pick, d: i64) -> Result<Line, FormFault>
     ensures beside { IfOk result (λ m. (pos 0 <ℤ d) → IsPicked l.now pick m.base) }
     ensures away { IfOk result (λ m. (pos 0 <ℤ d) → IsAway l.now d m.base) }
 {
-    parallel(l, pick, d)
+    parallel_at_value(l, pick, d)
 }
 
-fn parallel(l: &Line, pick: Pick, d: i64) -> Result<Line, FormFault>
+fn parallel_at_value(l: &Line, pick: Pick, d: i64) -> Result<Line, FormFault>
     requires line { IsLine l.now }
     requires distance { unsigned_abs d ≤ 10 ^ 8 }
     ensures { result ≡ feet.parallel_at l.now pick d }

@@ -26,7 +26,7 @@ pub fn line_line(a: &Moved, b: &Moved) -> Result<Pt, FormFault>
     ensures on_a { IfOk result (λ p. IsNearLine a.now.line a.now.off (pos 1) p) }
     ensures on_b { IfOk result (λ p. IsNearLine b.now.line b.now.off (pos 1) p) }
 {
-    meet(&a.line, a.off, &b.line, b.off)
+    line_line_value(&a.line, a.off, &b.line, b.off)
 }
 
 /// The same point of two lines that meet, in range or not.
@@ -43,7 +43,7 @@ pub fn line_line_point(a: &Moved, b: &Moved) -> Wide
     meeting_point(&a.line, a.off, &b.line, b.off, turn)
 }
 
-fn meet(a: &Line, ha: i64, b: &Line, hb: i64) -> Result<Pt, FormFault>
+fn line_line_value(a: &Line, ha: i64, b: &Line, hb: i64) -> Result<Pt, FormFault>
     requires a { IsLine a.now }
     requires b { IsLine b.now }
     requires ha { unsigned_abs ha ≤ 10 ^ 8 }

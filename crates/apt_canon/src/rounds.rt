@@ -41,10 +41,10 @@ pub fn circle_of(c: Pt, r: i64) -> Result<Circ, FormFault>
     ensures too_large { IsErrOf result FormFault.TooLarge ↔ IsTooLarge (rounds.circle c r) }
     ensures range { IfOk result (λ k. IsCircle k) }
 {
-    about(c, r)
+    circle_of_value(c, r)
 }
 
-fn about(c: Pt, r: i64) -> Result<Circ, FormFault>
+fn circle_of_value(c: Pt, r: i64) -> Result<Circ, FormFault>
     ensures { result ≡ rounds.circle_of c r }
 {
     if r < LEAST_RADIUS {
@@ -77,7 +77,7 @@ pub fn circle_through(c: Pt, p: Pt) -> Result<Circ, FormFault>
     ensures centre { IfOk result (λ k. k.c ≡ c) }
     ensures through { IfOk result (λ k. IsNearCircle k (pos 1) p) }
 {
-    about(c, length_near(displacement(c, p)))
+    circle_of_value(c, length_near(displacement(c, p)))
 }
 
 /// The length of a way, to the nearest whole number.
@@ -104,7 +104,7 @@ pub fn circle_touching(c: Pt, l: &Line) -> Result<Circ, FormFault>
     ensures centre { IfOk result (λ k. k.c ≡ c) }
     ensures touches { IfOk result (λ k. Touches k l.now) }
 {
-    about(c, distance_from_line(c, l))
+    circle_of_value(c, distance_from_line(c, l))
 }
 
 fn distance_from_line(p: Pt, l: &Line) -> i64
@@ -131,10 +131,10 @@ pub fn circle_three(p: Pt, q: Pt, r: Pt) -> Result<Circ, FormFault>
     ensures range { IfOk result (λ k. IsCircle k) }
     ensures through { IfOk result (λ k. IsThrough p q r k) }
 {
-    through_three(p, q, r)
+    circle_three_value(p, q, r)
 }
 
-fn through_three(p: Pt, q: Pt, r: Pt) -> Result<Circ, FormFault>
+fn circle_three_value(p: Pt, q: Pt, r: Pt) -> Result<Circ, FormFault>
     requires p { IsPoint p }
     requires q { IsPoint q }
     requires r { IsPoint r }
@@ -205,7 +205,7 @@ fn circle_from(p: Pt, way: Dir) -> Result<Circ, FormFault>
         x: p.x + way.dx,
         y: p.y + way.dy,
     };
-    about(centre, length_near(way))
+    circle_of_value(centre, length_near(way))
 }
 
 /// The circle of a radius, in grid units, in the corner of two lines, on the sides that modifiers name.
@@ -227,10 +227,10 @@ pub fn corner(a: &Line, pick_a: Pick, b: &Line, pick_b: Pick, r: i64) -> Result<
     ensures sides { IfOk result (λ k. IsPicked a.now pick_a k.c × IsPicked b.now pick_b k.c) }
     ensures touches { IfOk result (λ k. Touches k a.now × Touches k b.now) }
 {
-    in_corner(a, pick_a, b, pick_b, r)
+    corner_value(a, pick_a, b, pick_b, r)
 }
 
-fn in_corner(a: &Line, pick_a: Pick, b: &Line, pick_b: Pick, r: i64) -> Result<Circ, FormFault>
+fn corner_value(a: &Line, pick_a: Pick, b: &Line, pick_b: Pick, r: i64) -> Result<Circ, FormFault>
     requires a { IsLine a.now }
     requires b { IsLine b.now }
     requires r { unsigned_abs r ≤ 10 ^ 8 }
@@ -242,5 +242,5 @@ fn in_corner(a: &Line, pick_a: Pick, b: &Line, pick_b: Pick, r: i64) -> Result<C
     let ha = offset_picked(side_picked(a, pick_a), r)?;
     let hb = offset_picked(side_picked(b, pick_b), r)?;
     let centre = line_line(&Moved { line: *a, off: ha }, &Moved { line: *b, off: hb })?;
-    about(centre, r)
+    circle_of_value(centre, r)
 }

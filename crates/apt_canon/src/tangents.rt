@@ -37,7 +37,7 @@ pub fn tangent_from(p: Pt, left: bool, c: &Circ) -> Result<Line, FormFault>
     ensures side { IfOk result (λ t. PassesBy left t c.now) }
     ensures onwards { IfOk result (λ t. vectors.length_squared (vectors.displacement p c.now.c) ≢ signs.square c.now.r → RunsAlong (vectors.displacement p c.now.c) t) }
 {
-    from_point(p, left, c)
+    tangent_from_value(p, left, c)
 }
 
 /// The tangent of two circles: `left_a` and `left_b` where it has the first and the second on its right, as seen from
@@ -61,10 +61,10 @@ pub fn tangent_two(a: &Circ, left_a: bool, b: &Circ, left_b: bool) -> Result<Lin
     ensures side_b { IfOk result (λ t. PassesBy left_b t b.now) }
     ensures onwards { IfOk result (λ t. vectors.length_squared (vectors.displacement a.now.c b.now.c) ≢ signs.square (tangents.drop a.now left_a b.now left_b) → RunsAlong (vectors.displacement a.now.c b.now.c) t) }
 {
-    of_two(a, left_a, b, left_b)
+    tangent_two_value(a, left_a, b, left_b)
 }
 
-fn from_point(p: Pt, left: bool, c: &Circ) -> Result<Line, FormFault>
+fn tangent_from_value(p: Pt, left: bool, c: &Circ) -> Result<Line, FormFault>
     requires point { IsPoint p }
     requires circle { IsCircle c.now }
     ensures { result ≡ tangents.tangent_from p left c.now }
@@ -79,7 +79,7 @@ fn from_point(p: Pt, left: bool, c: &Circ) -> Result<Line, FormFault>
     })
 }
 
-fn of_two(a: &Circ, left_a: bool, b: &Circ, left_b: bool) -> Result<Line, FormFault>
+fn tangent_two_value(a: &Circ, left_a: bool, b: &Circ, left_b: bool) -> Result<Line, FormFault>
     requires a { IsCircle a.now }
     requires b { IsCircle b.now }
     ensures { result ≡ tangents.tangent_two a.now left_a b.now left_b }

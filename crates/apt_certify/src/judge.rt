@@ -85,7 +85,7 @@ fn job_verdict(job: &Job) -> Verdict
     ensures verdict { IsVerdict (job.now ∷ []) result }
     ensures motion { IfSome result.first_bad (λ bad. bad.motion ≡ 1) }
 {
-    path_verdict(&job.leg, job.out_sign, &job.points.vertices)
+    path_verdict(&job.leg, job.out_sign, job.points.all())
 }
 
 #[tactic(auto, using(crate::proofs::Edges::track_fits))]
@@ -145,6 +145,7 @@ fn path_fault(leg: &Leg, in_band: bool, points: &[Pt]) -> Option<Bad>
 {
     match points {
         [start, first, vertices @ ..] => leg_fault(leg, in_band, *start, *first, vertices),
+        // A motion has two points at least.
         _ => unreachable!(),
     }
 }

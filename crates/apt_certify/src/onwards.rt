@@ -1,4 +1,4 @@
-//! Segments whose start is not off: their end tells of them, and at a circle the foot of its centre too.
+//! Segments whose start is within: their end tells of them, and at a circle the foot of its centre too.
 
 ghost use Rattle.std.specs.Prelude.{◌≤◌, ◌*◌, ◌^◌, ◌↔◌, IsTrue, unsigned_abs};
 ghost use Rattle.apt_plane.specs.Ranges.{IsPoint, IsSurface, IsBand};

@@ -24,11 +24,7 @@ plain_holds incremental held None (acts.Units u) holds = tt
 plain_holds incremental held (Some at) (acts.Units u) holds = holds
 plain_holds incremental held at (acts.Rapid x y z) holds = (refl, refl, refl)
 plain_holds incremental held at (acts.Cut x y z feed) holds = (refl, refl, refl)
-plain_holds incremental held at (acts.Spindle turn n) holds = holds
-plain_holds incremental held at (acts.Coolant c) holds = holds
-plain_holds incremental held at (acts.Tool n) holds = holds
-plain_holds incremental held at acts.Stop holds = holds
-plain_holds incremental held at acts.OptStop holds = holds
+plain_holds incremental held at (acts.Do command) holds = holds
 plain_holds incremental held at acts.End holds = holds
 
 -- the last of acts to the end is the end, and no other is
@@ -36,11 +32,7 @@ last_is : (act : ArcAct) → FitToTheEnd (act ∷ []) → act ≡ arcs.Plain act
 last_is (arcs.Plain (acts.Units u)) fit = absurd fit.1
 last_is (arcs.Plain (acts.Rapid x y z)) fit = absurd fit.1
 last_is (arcs.Plain (acts.Cut x y z feed)) fit = absurd fit.1
-last_is (arcs.Plain (acts.Spindle turn n)) fit = absurd fit.1
-last_is (arcs.Plain (acts.Coolant c)) fit = absurd fit.1
-last_is (arcs.Plain (acts.Tool n)) fit = absurd fit.1
-last_is (arcs.Plain acts.Stop) fit = absurd fit.1
-last_is (arcs.Plain acts.OptStop) fit = absurd fit.1
+last_is (arcs.Plain (acts.Do command)) fit = absurd fit.1
 last_is (arcs.Plain acts.End) fit = refl
 last_is (arcs.Arc turn x y z cx cy feed) fit = absurd fit.1
 
@@ -48,11 +40,7 @@ first_is : (act next : ArcAct) (more : List ArcAct) → FitToTheEnd (act ∷ nex
 first_is (arcs.Plain (acts.Units u)) next more fit = (fit.0, refl, fit.1)
 first_is (arcs.Plain (acts.Rapid x y z)) next more fit = (fit.0, refl, fit.1)
 first_is (arcs.Plain (acts.Cut x y z feed)) next more fit = (fit.0, refl, fit.1)
-first_is (arcs.Plain (acts.Spindle turn n)) next more fit = (fit.0, refl, fit.1)
-first_is (arcs.Plain (acts.Coolant c)) next more fit = (fit.0, refl, fit.1)
-first_is (arcs.Plain (acts.Tool n)) next more fit = (fit.0, refl, fit.1)
-first_is (arcs.Plain acts.Stop) next more fit = (fit.0, refl, fit.1)
-first_is (arcs.Plain acts.OptStop) next more fit = (fit.0, refl, fit.1)
+first_is (arcs.Plain (acts.Do command)) next more fit = (fit.0, refl, fit.1)
 first_is (arcs.Plain acts.End) next more fit = absurd fit
 first_is (arcs.Arc turn x y z cx cy feed) next more fit = (fit.0, refl, fit.1)
 
@@ -81,10 +69,6 @@ are_program incremental [] fit can = absurd fit
 are_program incremental (arcs.Plain (acts.Units u) ∷ more) fit can = program_can incremental u more can fit
 are_program incremental (arcs.Plain (acts.Rapid x y z) ∷ more) fit can = absurd fit
 are_program incremental (arcs.Plain (acts.Cut x y z feed) ∷ more) fit can = absurd fit
-are_program incremental (arcs.Plain (acts.Spindle turn n) ∷ more) fit can = absurd fit
-are_program incremental (arcs.Plain (acts.Coolant c) ∷ more) fit can = absurd fit
-are_program incremental (arcs.Plain (acts.Tool n) ∷ more) fit can = absurd fit
-are_program incremental (arcs.Plain acts.Stop ∷ more) fit can = absurd fit
-are_program incremental (arcs.Plain acts.OptStop ∷ more) fit can = absurd fit
+are_program incremental (arcs.Plain (acts.Do command) ∷ more) fit can = absurd fit
 are_program incremental (arcs.Plain acts.End ∷ more) fit can = absurd fit
 are_program incremental (arcs.Arc turn x y z cx cy feed ∷ more) fit can = absurd fit

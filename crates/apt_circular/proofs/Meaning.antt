@@ -4,6 +4,7 @@ use Rattle.std.specs.List.{list_any, zip}
 use Rattle.std.specs.Option.{option_map, option_or}
 use Rattle.std.proofs.Common.{refl, sym, ap, subst, ◌∙◌, arith}
 use Rattle.std.proofs.lemmas.Bool.Decides.{nat_tests}
+use Rattle.apt_words.specs.declared.Command.TheVariants as commands
 use Rattle.apt_words.specs.declared.Units.{Units}
 use Rattle.apt_words.specs.declared.Units.TheVariants.{Inch, Mm}
 use Rattle.apt_words.specs.declared.Turn.TheVariants as turns
@@ -208,15 +209,15 @@ no_arc_words machine held (acts.Units Inch) = and_false _
 no_arc_words machine held (acts.Units Mm) = and_false _
 no_arc_words machine held (acts.Rapid x y z) = refl
 no_arc_words machine held (acts.Cut x y z feed) = refl
-no_arc_words machine held (acts.Spindle turns.Cw n) = and_false _
-no_arc_words machine held (acts.Spindle turns.Ccw n) = and_false _
-no_arc_words machine held (acts.Spindle turns.Off n) = and_false _
-no_arc_words machine held (acts.Coolant coolants.Mist) = and_false _
-no_arc_words machine held (acts.Coolant coolants.Flood) = and_false _
-no_arc_words machine held (acts.Coolant coolants.Off) = and_false _
-no_arc_words machine held (acts.Tool n) = and_false _
-no_arc_words machine held acts.Stop = and_false _
-no_arc_words machine held acts.OptStop = and_false _
+no_arc_words machine held (acts.Do (commands.Spindle turns.Cw n)) = and_false _
+no_arc_words machine held (acts.Do (commands.Spindle turns.Ccw n)) = and_false _
+no_arc_words machine held (acts.Do (commands.Spindle turns.Off n)) = and_false _
+no_arc_words machine held (acts.Do (commands.Coolant coolants.Mist)) = and_false _
+no_arc_words machine held (acts.Do (commands.Coolant coolants.Flood)) = and_false _
+no_arc_words machine held (acts.Do (commands.Coolant coolants.Off)) = and_false _
+no_arc_words machine held (acts.Do (commands.Tool n)) = and_false _
+no_arc_words machine held (acts.Do commands.Stop) = and_false _
+no_arc_words machine held (acts.Do commands.OptStop) = and_false _
 no_arc_words machine held acts.End = and_false _
 
 -- words that mean a plain act mean it to a control that cuts arcs

@@ -1,6 +1,7 @@
 -- Worked examples: the block of an arc, and what circular blocks mean.
 use Rattle.std.proofs.Common.{refl, ◌≡◌, ℤ, pos, negsuc, Bool, List, [], ◌∷◌, Some, None, true, false}
 use Rattle.std.specs.Prelude.{Result, Ok, Err}
+use Rattle.apt_words.specs.declared.Command.TheVariants as commands
 use Rattle.apt_words.specs.declared.Units.TheVariants.{Inch}
 use Rattle.apt_words.specs.declared.Cool.TheVariants.{Flood}
 use Rattle.apt_tapecode.specs.declared.Code.{Code}
@@ -100,7 +101,7 @@ drill : means held (g 81 ∷ []) ≡ Err (fault 10 causes.Foreign)
 drill = refl
 
 -- behind an arc a block without a coordinate is plain
-coolant : means there (m 8 ∷ []) ≡ Ok (record { held = there; acts = Plain (acts.Coolant Flood) ∷ []; ends = false })
+coolant : means there (m 8 ∷ []) ≡ Ok (record { held = there; acts = Plain (acts.Do (commands.Coolant Flood)) ∷ []; ends = false })
 coolant = refl
 
 -- and one with a coordinate is an arc

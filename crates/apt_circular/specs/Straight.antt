@@ -11,12 +11,8 @@ IsLine (surfaces.Circ c) = ⊥
 
 -- a record that is no drive surface, or a drive surface that is a line
 abbrev pub HasNoRound : Record → Type 0
-HasNoRound (records.Statement line step) = Unit {0}
-HasNoRound (records.Note note) = Unit {0}
 HasNoRound (records.Drive surface side sense) = IsLine surface
-HasNoRound (records.Check surface how) = Unit {0}
-HasNoRound (records.Point reach to) = Unit {0}
-HasNoRound (records.Contour vertices) = Unit {0}
+HasNoRound _ = Unit {0}
 
 -- no drive surface is a circle
 abbrev pub HaveNoRound : List Record → Type 0

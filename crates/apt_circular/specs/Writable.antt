@@ -22,11 +22,7 @@ abbrev pub stands_behind : Option Position → Act → Option Position
 stands_behind at (acts.Units u) = at
 stands_behind at (acts.Rapid x y z) = Some (position x y z)
 stands_behind at (acts.Cut x y z feed) = Some (position x y z)
-stands_behind at (acts.Spindle turn n) = at
-stands_behind at (acts.Coolant c) = at
-stands_behind at (acts.Tool n) = at
-stands_behind at acts.Stop = at
-stands_behind at acts.OptStop = at
+stands_behind at (acts.Do command) = at
 stands_behind at acts.End = at
 
 -- an arc from where the tool stands, at its height: the two positions and the centre are three points, and the centre is no farther than a word can say

@@ -102,7 +102,7 @@ impl ArcPoster {
         let ways = a.goes_by_ways(self.poster.machine().incremental, &held);
         let words = a.words(&held, ways);
         let told = told_words(&words, held.incremental, ways);
-        self.poster.told(told, &a.behind(&held, ways))
+        self.poster.told_block(told, &a.behind(&held, ways))
     }
 
     /// Appends the bytes that stand before the first block: rewind stop and end of block.

@@ -8,6 +8,7 @@ use Rattle.apt_plane.specs.declared.figures.Surface.{Surface}
 use Rattle.apt_plane.specs.declared.figures.Surface.TheVariants as surfaces
 use Rattle.apt_plane.specs.Ranges.{IsLine, IsCircle, IsSense}
 use Rattle.apt_plane.specs.declared.figures.Circ.{Circ}
+use Rattle.apt_words.specs.declared.Command.TheVariants as commands
 use Rattle.apt_words.specs.declared.Turn.{Turn}
 use Rattle.apt_words.specs.declared.Turn.TheVariants as turns
 use Rattle.apt_words.specs.declared.Side.{Side}
@@ -106,7 +107,7 @@ speed_from_zero turns.Cw n h = (omega (arith, ints, h.0), h.1)
 speed_from_zero turns.Ccw n h = (omega (arith, ints, h.0), h.1)
 speed_from_zero turns.Off n h = subst (IsFromTo (pos 0) greatest) (sym h) (omega (arith, ints), omega (arith, ints))
 
-spindl_again : (turn : Turn) (n : ℤ) → IsSpeed turn n → spindl_at n (turn_word turn) ≡ Ok (records.Note (notes.Spindle turn n))
+spindl_again : (turn : Turn) (n : ℤ) → IsSpeed turn n → spindl_at n (turn_word turn) ≡ Ok (records.Note (notes.Do (commands.Spindle turn n)))
 spindl_again turn n h =
     bind_again (from_to (pos 0) greatest 0 n) _ n _ (from_to_again (pos 0) greatest 0 n (speed_from_zero turn n h))
     (bind_again (turn_at 1 n (turn_word turn)) _ turn _ (turn_again 1 turn n h) refl)
@@ -119,12 +120,12 @@ note_again (notes.Cutter d) h = number_again (pos 0) (pos 1000000) d notes.Cutte
 note_again (notes.Intol t) h = number_again (pos 0) (pos 10000) t notes.Intol h
 note_again (notes.Outtol t) h = number_again (pos 0) (pos 10000) t notes.Outtol h
 note_again (notes.Feed f) h = number_again (pos 1) greatest f notes.Feed h
-note_again (notes.Spindle turn n) h = spindl_again turn n h
-note_again (notes.Coolant c) h = bind_again (cool_at 0 (cool_word c)) _ c _ (cool_again 0 c) refl
-note_again (notes.Tool n) h = number_again (pos 1) greatest n notes.Tool h
+note_again (notes.Do (commands.Spindle turn n)) h = spindl_again turn n h
+note_again (notes.Do (commands.Coolant c)) h = bind_again (cool_at 0 (cool_word c)) _ c _ (cool_again 0 c) refl
+note_again (notes.Do (commands.Tool n)) h = number_again (pos 1) greatest n (λ n. notes.Do (commands.Tool n)) h
 note_again notes.Rapid h = refl
-note_again notes.Stop h = refl
-note_again notes.OptStop h = refl
+note_again (notes.Do commands.Stop) h = refl
+note_again (notes.Do commands.OptStop) h = refl
 note_again notes.End h = refl
 note_again notes.Fini h = refl
 

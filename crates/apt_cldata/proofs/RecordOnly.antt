@@ -6,6 +6,7 @@ use Rattle.apt_plane.specs.declared.figures.Pt.{Pt}
 use Rattle.apt_plane.specs.declared.figures.Surface.{Surface}
 use Rattle.apt_plane.specs.declared.figures.Surface.TheVariants as surfaces
 use Rattle.apt_plane.specs.Ranges.{IsSurface}
+use Rattle.apt_words.specs.declared.Command.TheVariants as commands
 use Rattle.apt_words.specs.Sources.{IsText}
 use Rattle.apt_cldata.specs.declared.fields.Misfit.{Misfit}
 use Rattle.apt_records.specs.declared.record.Position.{Position}
@@ -83,7 +84,7 @@ spindl_only (n ∷ w ∷ []) r e =
     let y = bind_only (turn_at 1 x.0 w) _ r x.2 in
     let h = from_to_only (pos 0) greatest 0 n x.0 x.1 in
     let k = turn_only 1 x.0 w y.0 (subst (IsFromTo (pos 0) greatest) h.0 h.1) y.1 in
-    let same : records.Note (notes.Spindle y.0 x.0) ≡ r = cc in
+    let same : records.Note (notes.Do (commands.Spindle y.0 x.0)) ≡ r = cc in
     subst (Says (pos 2000) (pos 7) (n ∷ w ∷ [])) same ((λ i. pos 2000 ∷ pos 7 ∷ sym h.0 i ∷ k.0 i ∷ []), k.1)
 spindl_only (n ∷ w ∷ v ∷ ws) r e = absurd (cc)
 
@@ -91,7 +92,7 @@ coolnt_only : (ws : List ℤ) (r : Record) → coolnt_by ws ≡ Ok r → Says (p
 coolnt_only [] r e = absurd (cc)
 coolnt_only (w ∷ []) r e =
     let x = bind_only (cool_at 0 w) _ r e in
-    let same : records.Note (notes.Coolant x.0) ≡ r = cc in
+    let same : records.Note (notes.Do (commands.Coolant x.0)) ≡ r = cc in
     subst (Says (pos 2000) (pos 8) (w ∷ [])) same (ap (λ w. pos 2000 ∷ pos 8 ∷ w ∷ []) (cool_only 0 w x.0 x.1), tt)
 coolnt_only (w ∷ v ∷ ws) r e = absurd (cc)
 
@@ -108,13 +109,13 @@ command_only sub ws r e =
     let at : (v : ℤ) → int_eq sub v ≡ true → Says (pos 2000) v ws r → Says (pos 2000) sub ws r = λ v is h. subst (λ s. Says (pos 2000) s ws r) (sym (equal_only sub v is)) h in
     pick (int_eq sub (pos 1)) _ _ _ (λ is e. at (pos 1) is (partno_only ws r e))
     (pick (int_eq sub (pos 2)) _ _ _ (λ is e. at (pos 2) is (alone_only (pos 2000) (pos 2) notes.Rapid ws r refl tt e))
-    (pick (int_eq sub (pos 3)) _ _ _ (λ is e. at (pos 3) is (alone_only (pos 2000) (pos 3) notes.Stop ws r refl tt e))
-    (pick (int_eq sub (pos 4)) _ _ _ (λ is e. at (pos 4) is (alone_only (pos 2000) (pos 4) notes.OptStop ws r refl tt e))
+    (pick (int_eq sub (pos 3)) _ _ _ (λ is e. at (pos 3) is (alone_only (pos 2000) (pos 3) (notes.Do commands.Stop) ws r refl tt e))
+    (pick (int_eq sub (pos 4)) _ _ _ (λ is e. at (pos 4) is (alone_only (pos 2000) (pos 4) (notes.Do commands.OptStop) ws r refl tt e))
     (pick (int_eq sub (pos 5)) _ _ _ (λ is e. at (pos 5) is (alone_only (pos 2000) (pos 5) notes.End ws r refl tt e))
     (pick (int_eq sub (pos 6)) _ _ _ (λ is e. at (pos 6) is (note_of_number_only (pos 2000) (pos 6) (pos 1) greatest notes.Feed ws r (λ n. refl) (λ n h. h) e))
     (pick (int_eq sub (pos 7)) _ _ _ (λ is e. at (pos 7) is (spindl_only ws r e))
     (pick (int_eq sub (pos 8)) _ _ _ (λ is e. at (pos 8) is (coolnt_only ws r e))
-    (pick (int_eq sub (pos 9)) _ _ _ (λ is e. at (pos 9) is (note_of_number_only (pos 2000) (pos 9) (pos 1) greatest notes.Tool ws r (λ n. refl) (λ n h. h) e))
+    (pick (int_eq sub (pos 9)) _ _ _ (λ is e. at (pos 9) is (note_of_number_only (pos 2000) (pos 9) (pos 1) greatest (λ n. notes.Do (commands.Tool n)) ws r (λ n. refl) (λ n h. h) e))
     (λ e. absurd (cc))))))))))
     e
 

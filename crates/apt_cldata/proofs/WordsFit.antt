@@ -7,6 +7,7 @@ use Rattle.std.proofs.lemmas.Int.{ints}
 use Rattle.apt_plane.specs.Ranges.{IsSurface, IsSense}
 use Rattle.apt_plane.specs.declared.figures.Surface.{Surface}
 use Rattle.apt_plane.specs.declared.figures.Surface.TheVariants as surfaces
+use Rattle.apt_words.specs.declared.Command.TheVariants as commands
 use Rattle.apt_words.specs.declared.Units.{Units}
 use Rattle.apt_words.specs.declared.Units.TheVariants as units
 use Rattle.apt_words.specs.declared.Turn.{Turn}
@@ -106,12 +107,12 @@ note_fits (notes.Cutter d) h = (fits_pos 6000 (lit≤ tt), (fits_pos 1 (lit≤ t
 note_fits (notes.Intol t) h = (fits_pos 6000 (lit≤ tt), (fits_pos 2 (lit≤ tt), (fits_number t h.0 (omega (arith, ints, h.1)), tt)))
 note_fits (notes.Outtol t) h = (fits_pos 6000 (lit≤ tt), (fits_pos 3 (lit≤ tt), (fits_number t h.0 (omega (arith, ints, h.1)), tt)))
 note_fits (notes.Feed f) h = (fits_pos 2000 (lit≤ tt), (fits_pos 6 (lit≤ tt), (fits_number f (omega (arith, ints, h.0)) h.1, tt)))
-note_fits (notes.Spindle turn n) h = (fits_pos 2000 (lit≤ tt), (fits_pos 7 (lit≤ tt), (speed_fits turn n h, (turn_fits turn, tt))))
-note_fits (notes.Coolant c) h = (fits_pos 2000 (lit≤ tt), (fits_pos 8 (lit≤ tt), (cool_fits c, tt)))
-note_fits (notes.Tool n) h = (fits_pos 2000 (lit≤ tt), (fits_pos 9 (lit≤ tt), (fits_number n (omega (arith, ints, h.0)) h.1, tt)))
+note_fits (notes.Do (commands.Spindle turn n)) h = (fits_pos 2000 (lit≤ tt), (fits_pos 7 (lit≤ tt), (speed_fits turn n h, (turn_fits turn, tt))))
+note_fits (notes.Do (commands.Coolant c)) h = (fits_pos 2000 (lit≤ tt), (fits_pos 8 (lit≤ tt), (cool_fits c, tt)))
+note_fits (notes.Do (commands.Tool n)) h = (fits_pos 2000 (lit≤ tt), (fits_pos 9 (lit≤ tt), (fits_number n (omega (arith, ints, h.0)) h.1, tt)))
 note_fits notes.Rapid h = (fits_pos 2000 (lit≤ tt), (fits_pos 2 (lit≤ tt), tt))
-note_fits notes.Stop h = (fits_pos 2000 (lit≤ tt), (fits_pos 3 (lit≤ tt), tt))
-note_fits notes.OptStop h = (fits_pos 2000 (lit≤ tt), (fits_pos 4 (lit≤ tt), tt))
+note_fits (notes.Do commands.Stop) h = (fits_pos 2000 (lit≤ tt), (fits_pos 3 (lit≤ tt), tt))
+note_fits (notes.Do commands.OptStop) h = (fits_pos 2000 (lit≤ tt), (fits_pos 4 (lit≤ tt), tt))
 note_fits notes.End h = (fits_pos 2000 (lit≤ tt), (fits_pos 5 (lit≤ tt), tt))
 note_fits notes.Fini h = (fits_pos 14000 (lit≤ tt), (fits_pos 0 (lit≤ tt), tt))
 

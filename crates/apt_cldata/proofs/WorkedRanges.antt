@@ -3,6 +3,7 @@ use Rattle.std.specs.Prelude.{◌≡◌, ◌+◌, ◌*◌, ℕ, ℤ, pos, negsuc
 use Rattle.std.proofs.Common.{refl}
 use Rattle.apt_plane.specs.declared.figures.Surface.{Surface}
 use Rattle.apt_plane.specs.declared.figures.Surface.TheVariants as surfaces
+use Rattle.apt_words.specs.declared.Command.TheVariants as commands
 use Rattle.apt_words.specs.declared.Side.TheVariants as sides
 use Rattle.apt_words.specs.declared.Stop.TheVariants as stops
 use Rattle.apt_words.specs.declared.Turn.TheVariants as turns
@@ -51,7 +52,7 @@ feeds : alone (pos 2000) (pos 6) (pos 0 ∷ pos 1 ∷ pos 2147483647 ∷ pos 214
 unfolding record_of
 feeds = refl
 
-tools : alone (pos 2000) (pos 9) (pos 0 ∷ pos 1 ∷ pos 2147483647 ∷ pos 2147483648 ∷ []) ≡ misfit 0 ∷ noted (notes.Tool (pos 1)) ∷ noted (notes.Tool (pos 2147483647)) ∷ misfit 0 ∷ []
+tools : alone (pos 2000) (pos 9) (pos 0 ∷ pos 1 ∷ pos 2147483647 ∷ pos 2147483648 ∷ []) ≡ misfit 0 ∷ noted (notes.Do (commands.Tool (pos 1))) ∷ noted (notes.Do (commands.Tool (pos 2147483647))) ∷ misfit 0 ∷ []
 unfolding record_of
 tools = refl
 
@@ -67,7 +68,7 @@ text_with_a_delete = refl
 
 -- a speed with its turn: 0 goes with 0 alone
 spindles : map (said (pos 2000) (pos 7)) ((pos 0 ∷ pos 0 ∷ []) ∷ (pos 0 ∷ pos 1 ∷ []) ∷ (pos 1 ∷ pos 0 ∷ []) ∷ (pos 1 ∷ pos 2 ∷ []) ∷ (pos 1 ∷ pos 3 ∷ []) ∷ (pos 2147483648 ∷ pos 1 ∷ []) ∷ [])
-    ≡ noted (notes.Spindle turns.Off (pos 0)) ∷ misfit 1 ∷ misfit 1 ∷ noted (notes.Spindle turns.Ccw (pos 1)) ∷ misfit 1 ∷ misfit 0 ∷ []
+    ≡ noted (notes.Do (commands.Spindle turns.Off (pos 0))) ∷ misfit 1 ∷ misfit 1 ∷ noted (notes.Do (commands.Spindle turns.Ccw (pos 1))) ∷ misfit 1 ∷ misfit 0 ∷ []
 unfolding record_of
 spindles = refl
 

@@ -1,4 +1,5 @@
 -- The record that a class, a subtype and the words behind them say, or what keeps them from being one.
+use Rattle.apt_words.specs.declared.Command.TheVariants as commands
 use Rattle.std.specs.Prelude.{ℕ, suc, ◌+◌, ℤ, pos, nat_le, ◌==◌, Bool, ◌&&◌, ◌%◌, length, List, [], ◌∷◌, Result, Ok, Err, if◌then◌else◌}
 use Rattle.std.specs.Ordering.{int_eq}
 use Rattle.apt_plane.specs.declared.figures.Surface.{Surface}
@@ -45,7 +46,7 @@ abbrev pub fedrat_by : List ℤ → Result Record Misfit
 fedrat_by ws = number_alone (pos 1) greatest ws >>= λ f. Ok (records.Note (notes.Feed f))
 
 abbrev pub loadtl_by : List ℤ → Result Record Misfit
-loadtl_by ws = number_alone (pos 1) greatest ws >>= λ n. Ok (records.Note (notes.Tool n))
+loadtl_by ws = number_alone (pos 1) greatest ws >>= λ n. Ok (records.Note (notes.Do (commands.Tool n)))
 
 abbrev pub cutter_by : List ℤ → Result Record Misfit
 cutter_by ws = number_alone (pos 0) (pos 1000000) ws >>= λ d. Ok (records.Note (notes.Cutter d))
@@ -57,14 +58,14 @@ abbrev pub outtol_by : List ℤ → Result Record Misfit
 outtol_by ws = number_alone (pos 0) (pos 10000) ws >>= λ t. Ok (records.Note (notes.Outtol t))
 
 abbrev pub spindl_at : ℤ → ℤ → Result Record Misfit
-spindl_at n turn = from_to (pos 0) greatest 0 n >>= λ n. turn_at 1 n turn >>= λ turn. Ok (records.Note (notes.Spindle turn n))
+spindl_at n turn = from_to (pos 0) greatest 0 n >>= λ n. turn_at 1 n turn >>= λ turn. Ok (records.Note (notes.Do (commands.Spindle turn n)))
 
 abbrev pub spindl_by : List ℤ → Result Record Misfit
 spindl_by (n ∷ turn ∷ []) = spindl_at n turn
 spindl_by ws = Err misfits.Count
 
 abbrev pub coolnt_by : List ℤ → Result Record Misfit
-coolnt_by (c ∷ []) = cool_at 0 c >>= λ c. Ok (records.Note (notes.Coolant c))
+coolnt_by (c ∷ []) = cool_at 0 c >>= λ c. Ok (records.Note (notes.Do (commands.Coolant c)))
 coolnt_by ws = Err misfits.Count
 
 abbrev pub units_by : List ℤ → Result Record Misfit
@@ -75,8 +76,8 @@ abbrev pub command_by : ℤ → List ℤ → Result Record Misfit
 command_by sub ws =
     if int_eq sub (pos 1) then partno_by ws
     else if int_eq sub (pos 2) then note_alone notes.Rapid ws
-    else if int_eq sub (pos 3) then note_alone notes.Stop ws
-    else if int_eq sub (pos 4) then note_alone notes.OptStop ws
+    else if int_eq sub (pos 3) then note_alone (notes.Do commands.Stop) ws
+    else if int_eq sub (pos 4) then note_alone (notes.Do commands.OptStop) ws
     else if int_eq sub (pos 5) then note_alone notes.End ws
     else if int_eq sub (pos 6) then fedrat_by ws
     else if int_eq sub (pos 7) then spindl_by ws

@@ -10,7 +10,7 @@ use crate::fields::{
 };
 use apt_plane::{Line, Surface};
 use apt_records::{Note, Position, Reach, Record, Vertices};
-use apt_words::Text;
+use apt_words::{Command, Text};
 use std::alloc::{AllocError, Global};
 
 /// The record of a class, a subtype and the words behind them, or what keeps them from being one.
@@ -98,7 +98,7 @@ fn spindl_at(n: i64, turn: i64) -> Result<Record, Misfit>
 {
     let n = from_to(0, GREATEST, 0, n)?;
     let turn = turn_at(1, n, turn)?;
-    Ok(Record::Note(Note::Spindle(turn, n)))
+    Ok(Record::Note(Note::Do(Command::Spindle(turn, n))))
 }
 
 fn spindl_by(words: &[Word]) -> Result<Record, Misfit>
@@ -116,7 +116,8 @@ fn coolnt_by(words: &[Word]) -> Result<Record, Misfit>
     let [c] = words else {
         return Err(Misfit::Count);
     };
-    Ok(Record::Note(Note::Coolant(cool_at(0, number(c))?)))
+    let cool = cool_at(0, number(c))?;
+    Ok(Record::Note(Note::Do(Command::Coolant(cool))))
 }
 
 fn command_by(alloc: Global, sub: i64, words: &[Word]) -> Result<Result<Record, Misfit>, AllocError>
@@ -126,8 +127,8 @@ fn command_by(alloc: Global, sub: i64, words: &[Word]) -> Result<Result<Record, 
     match sub {
         1 => partno_by(alloc, words),
         2 => Ok(note_alone(Note::Rapid, words)),
-        3 => Ok(note_alone(Note::Stop, words)),
-        4 => Ok(note_alone(Note::OptStop, words)),
+        3 => Ok(note_alone(Note::Do(Command::Stop), words)),
+        4 => Ok(note_alone(Note::Do(Command::OptStop), words)),
         5 => Ok(note_alone(Note::End, words)),
         6 => Ok(fedrat_by(words)),
         7 => Ok(spindl_by(words)),
@@ -146,7 +147,8 @@ fn fedrat_by(words: &[Word]) -> Result<Record, Misfit>
 fn loadtl_by(words: &[Word]) -> Result<Record, Misfit>
     ensures { result ≡ spec.loadtl_by (numbers_of words.now) }
 {
-    Ok(Record::Note(Note::Tool(number_alone(1, GREATEST, words)?)))
+    let n = number_alone(1, GREATEST, words)?;
+    Ok(Record::Note(Note::Do(Command::Tool(n))))
 }
 
 fn setting_by(sub: i64, words: &[Word]) -> Result<Record, Misfit>

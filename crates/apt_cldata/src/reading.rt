@@ -71,7 +71,7 @@ fn misfit_at(at: u64, misfit: Misfit) -> ClFault
 }
 
 /// What is said, or its misfit by its place.
-fn located(at: u64, said: Result<Record, Misfit>) -> Result<Record, ClFault>
+fn at_place(at: u64, said: Result<Record, Misfit>) -> Result<Record, ClFault>
     requires { at < 2 ^ 63 }
     ensures { result ≡ spec.located at said }
 {
@@ -110,7 +110,7 @@ fn said_by(
     ensures { IfOk result (λ r. r ≡ spec.said_by seq at n bytes.now) }
 {
     if word_in(&bytes[4..]) == seq {
-        Ok(located(at, record_in(alloc, n, bytes)?))
+        Ok(at_place(at, record_in(alloc, n, bytes)?))
     } else {
         Ok(Err(ClFault::new(at + 4, ClCause::Seq)))
     }
@@ -169,7 +169,7 @@ fn behind<'a>(at: u64, due: &[u8], bytes: &'a [u8]) -> Result<&'a [u8], ClFault>
 
 /// The head of version 2, from its number on.
 #[tactic(auto, unfolding(crate::specs::Reading::count_in))]
-fn numbered(at: u64, bytes: &[u8]) -> Result<Head<'_>, ClFault>
+fn numbered_head(at: u64, bytes: &[u8]) -> Result<Head<'_>, ClFault>
     requires { at + length bytes.now < 2 ^ 63 }
     ensures { MatchResult result (λ h. spec.numbered at bytes.now ≡ Ok (spec.head h.number h.at h.rest.now)) (λ f. spec.numbered at bytes.now ≡ Err f) }
 {
@@ -184,7 +184,7 @@ fn numbered(at: u64, bytes: &[u8]) -> Result<Head<'_>, ClFault>
 }
 
 /// The head from its version on.
-fn versioned(at: u64, bytes: &[u8]) -> Result<Head<'_>, ClFault>
+fn versioned_head(at: u64, bytes: &[u8]) -> Result<Head<'_>, ClFault>
     requires { at + length bytes.now < 2 ^ 63 }
     ensures { MatchResult result (λ h. spec.versioned at bytes.now ≡ Ok (spec.head h.number h.at h.rest.now)) (λ f. spec.versioned at bytes.now ≡ Err f) }
 {
@@ -195,7 +195,7 @@ fn versioned(at: u64, bytes: &[u8]) -> Result<Head<'_>, ClFault>
             at: at + 2,
             rest: behind(at + 1, b"\n", bytes)?,
         }),
-        Some((b'2', bytes)) => numbered(at + 2, behind(at + 1, b"\n", bytes)?),
+        Some((b'2', bytes)) => numbered_head(at + 2, behind(at + 1, b"\n", bytes)?),
         Some(_) => Err(ClFault::new(at, ClCause::Header)),
     }
 }
@@ -211,5 +211,5 @@ pub fn read_head(bytes: &[u8]) -> Result<Head<'_>, ClError>
     ensures there { IfOk result (λ h. h.at + length h.rest.now ≡ length bytes.now) }
 {
     let version = behind(0, FRONT, bytes)?;
-    Ok(versioned(6, version)?)
+    Ok(versioned_head(6, version)?)
 }

@@ -10,7 +10,7 @@ ghost use Rattle.apt_records.specs.Vertices.{at_height};
 use crate::bytes::{push_length, push_word};
 use apt_plane::{Pt, Surface};
 use apt_records::{Note, Position, Reach, Record, VertexSlice};
-use apt_words::{Cool, Side, Stop, Turn, Units};
+use apt_words::{Command, Cool, Side, Stop, Turn, Units};
 use std::alloc::AllocError;
 
 /// Appends a record with its number; after a refusal a part of it may stand there.
@@ -69,6 +69,24 @@ fn push_rows(bytes: &mut Vec<u8>, rows: &[[u8; 8]]) -> Result<(), AllocError>
     bytes.extend_from_slice(rows.as_flattened())
 }
 
+fn push_command(bytes: &mut Vec<u8>, seq: i64, command: Command) -> Result<(), AllocError>
+    ensures { OnOk result (bytes.new.items ≡ bytes.old.items ++ files.framed (seq ∷ spec.command_words command)) }
+{
+    match command {
+        Command::Stop => push_rows(bytes, &[row(seq), row(2000), row(3)]),
+        Command::OptStop => push_rows(bytes, &[row(seq), row(2000), row(4)]),
+        Command::Spindle(turn, n) => {
+            let (n, turn) = (row(n), row(turn_word(turn)));
+            push_rows(bytes, &[row(seq), row(2000), row(7), n, turn])
+        }
+        Command::Coolant(cool) => {
+            let cool = row(cool_word(cool));
+            push_rows(bytes, &[row(seq), row(2000), row(8), cool])
+        }
+        Command::Tool(n) => push_rows(bytes, &[row(seq), row(2000), row(9), row(n)]),
+    }
+}
+
 fn push_note(bytes: &mut Vec<u8>, seq: i64, note: &Note) -> Result<(), AllocError>
     requires short { 8 * (1 + length (spec.note_words note.now)) ≤ lists.most_bytes }
     ensures { OnOk result (bytes.new.items ≡ bytes.old.items ++ files.framed (seq ∷ spec.note_words note.now)) }
@@ -76,19 +94,9 @@ fn push_note(bytes: &mut Vec<u8>, seq: i64, note: &Note) -> Result<(), AllocErro
     match note {
         Note::Partno(text) => push_partno(bytes, seq, &text.bytes),
         Note::Rapid => push_rows(bytes, &[row(seq), row(2000), row(2)]),
-        Note::Stop => push_rows(bytes, &[row(seq), row(2000), row(3)]),
-        Note::OptStop => push_rows(bytes, &[row(seq), row(2000), row(4)]),
+        Note::Do(command) => push_command(bytes, seq, *command),
         Note::End => push_rows(bytes, &[row(seq), row(2000), row(5)]),
         Note::Feed(tenths) => push_rows(bytes, &[row(seq), row(2000), row(6), row(*tenths)]),
-        Note::Spindle(turn, n) => {
-            let (n, turn) = (row(*n), row(turn_word(*turn)));
-            push_rows(bytes, &[row(seq), row(2000), row(7), n, turn])
-        }
-        Note::Coolant(cool) => {
-            let cool = row(cool_word(*cool));
-            push_rows(bytes, &[row(seq), row(2000), row(8), cool])
-        }
-        Note::Tool(n) => push_rows(bytes, &[row(seq), row(2000), row(9), row(*n)]),
         Note::Cutter(d) => push_rows(bytes, &[row(seq), row(6000), row(1), row(*d)]),
         Note::Intol(t) => push_rows(bytes, &[row(seq), row(6000), row(2), row(*t)]),
         Note::Outtol(t) => push_rows(bytes, &[row(seq), row(6000), row(3), row(*t)]),

@@ -24,10 +24,10 @@ pub fn write(alloc: Global, records: &[Record]) -> Result<Vec<u8>, AllocError>
     ensures again { IfOk result (λ v. read_of v.items ≡ Ok records.now) }
     ensures apart { IfOk result (λ v. StandApart 1 records.now (drop 16 v.items)) }
 {
-    write_exactly(alloc, records)
+    write_value(alloc, records)
 }
 
-fn write_exactly(alloc: Global, records: &[Record]) -> Result<Vec<u8>, AllocError>
+fn write_value(alloc: Global, records: &[Record]) -> Result<Vec<u8>, AllocError>
     requires { IsFile records.now }
     ensures { IfOk result (λ v. v.items ≡ file_of records.now) }
 {

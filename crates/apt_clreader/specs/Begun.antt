@@ -19,14 +19,8 @@ abbrev pub Fault : Type 0
 Fault = refusal read_of
 
 abbrev pub is_truncation : ClCause → Bool
-is_truncation causes.Header = false
 is_truncation causes.Truncated = true
-is_truncation causes.Length = false
-is_truncation causes.Seq = false
-is_truncation causes.Class = false
-is_truncation causes.Range = false
-is_truncation causes.AfterFini = false
-is_truncation causes.Count = false
+is_truncation _ = false
 
 -- the bytes end within what is read
 abbrev pub is_truncated : {A : Type 0} → Result A Fault → Bool

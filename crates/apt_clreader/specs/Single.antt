@@ -3,6 +3,7 @@ use Rattle.std.specs.Prelude.{ℕ, ℤ, pos, negsuc, List, [], ◌∷◌}
 use Rattle.std.proofs.Common.{◌≡◌, inl, inr, ap, sym, ◌∙◌}
 use Rattle.std.proofs.Math.IntN.{ℤ_set}
 use Rattle.std.proofs.Props.{props}
+use Rattle.apt_words.specs.declared.Command.TheVariants as commands
 use Rattle.apt_words.specs.declared.Turn.TheVariants as turns
 use Rattle.apt_words.specs.declared.Turn.{Turn}
 use Rattle.apt_plane.specs.declared.figures.Surface.{Surface}
@@ -35,12 +36,12 @@ note_single (notes.Cutter d) = Prim.hlevel props
 note_single (notes.Intol t) = Prim.hlevel props
 note_single (notes.Outtol t) = Prim.hlevel props
 note_single (notes.Feed f) = Prim.hlevel props
-note_single (notes.Spindle turn n) = speed_single turn n
-note_single (notes.Coolant c) = Prim.hlevel props
-note_single (notes.Tool n) = Prim.hlevel props
+note_single (notes.Do (commands.Spindle turn n)) = speed_single turn n
+note_single (notes.Do (commands.Coolant c)) = Prim.hlevel props
+note_single (notes.Do (commands.Tool n)) = Prim.hlevel props
 note_single notes.Rapid = Prim.hlevel props
-note_single notes.Stop = Prim.hlevel props
-note_single notes.OptStop = Prim.hlevel props
+note_single (notes.Do commands.Stop) = Prim.hlevel props
+note_single (notes.Do commands.OptStop) = Prim.hlevel props
 note_single notes.End = Prim.hlevel props
 note_single notes.Fini = Prim.hlevel props
 

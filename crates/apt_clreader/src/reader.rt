@@ -79,14 +79,14 @@ impl ClReader {
             ..
         } = self;
         match part {
-            Part::Nothing => counted(number, records),
+            Part::Nothing => check_count(number, records),
             Part::Records => Err(ClError::Bad {
                 at: end,
                 cause: ClCause::Truncated,
             }),
-            // what is held is no whole head
             Part::Head => {
                 read_head(&held)?;
+                // What is held is no whole head, so that it has a fault.
                 unreachable!()
             }
         }
@@ -94,7 +94,7 @@ impl ClReader {
 }
 
 /// The records behind a head, unless it told another number of them.
-fn counted(number: Option<u64>, records: Vec<Record>) -> Result<Vec<Record>, ClError>
+fn check_count(number: Option<u64>, records: Vec<Record>) -> Result<Vec<Record>, ClError>
     ensures value { IsDueAs (λ v. v.items) fault_in (counted number records.items) result }
     ensures same { IfOk result (λ v. v.items ≡ records.items) }
 {
@@ -340,10 +340,10 @@ pub fn read(alloc: Global, bytes: &[u8]) -> Result<Vec<Record>, ClError>
     ensures file { IfOk result (λ v. IsFile v.items) }
     ensures few { IfOk result (λ v. vertex_count v.items + length v.items ≤ length bytes.now) }
 {
-    read_exactly(alloc, bytes)
+    read_value(alloc, bytes)
 }
 
-fn read_exactly(alloc: Global, bytes: &[u8]) -> Result<Vec<Record>, ClError>
+fn read_value(alloc: Global, bytes: &[u8]) -> Result<Vec<Record>, ClError>
     requires { length bytes.now < 2 ^ 63 }
     ensures { IsDueAs (λ v. v.items) fault_in (read_of bytes.now) result }
 {

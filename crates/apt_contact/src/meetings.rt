@@ -21,10 +21,10 @@ pub fn meet(a: &Target, b: &Target) -> Meeting
     ensures apart { (result ≡ Meeting.Apart) ↔ ((¬ AreParallel a.now b.now) × (¬ Meet a.now b.now)) }
     ensures one { (result ≡ Meeting.One) ↔ ((¬ AreParallel a.now b.now) × Touch a.now b.now) }
 {
-    meeting_of(a, b)
+    meet_value(a, b)
 }
 
-fn meeting_of(a: &Target, b: &Target) -> Meeting
+fn meet_value(a: &Target, b: &Target) -> Meeting
     requires first { IsCurve a.now }
     requires second { IsCurve b.now }
     ensures { result ≡ spec.meeting_of a.now b.now }

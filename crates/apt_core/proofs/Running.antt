@@ -12,7 +12,7 @@ use Rattle.apt_report.specs.declared.status.Summary.TheVariants as summaries
 use Rattle.apt_records.specs.declared.record.Record.{Record}
 use Rattle.apt_cldata.specs.Reading.{read_of}
 use Rattle.apt_report.specs.Listing.{point_count}
-use Rattle.apt_core.specs.Words.{FourNames, TapeNames, Ask, Compile, Certify, Decode, Listing, Demo, Guard}
+use Rattle.apt_core.specs.Words.{FourNames, TapeNames, Work, Compile, Certify, Decode, Listing, Demo, Guard}
 use Rattle.apt_core.specs.Due.{OrNoMemory}
 use Rattle.apt_core.specs.Inputs.{part_inputs, inputs, tape_inputs, list_inputs, ReadsAll}
 use Rattle.apt_core.specs.Outputs.{Output, output_of, output_due}
@@ -28,9 +28,9 @@ use Rattle.apt_core.proofs.Listing.{points_for}
 use Rattle.apt_core.proofs.Right.{same_texts}
 use Rattle.apt_core.proofs.Unfailed.{AreUnfailed, stopped_short, FaultOrWritten, compiles_whole, certifies_right, guards_clear}
 
-pub run_is : (ask : Option Ask) (before after : Outside) (said : Said) (answer : Status) → Works ask before.files after.files said → IsPut said before.lines after.lines answer
-    → IsRun ask before after answer
-run_is ask before after said answer works puts = record { said = said; works = works; puts = puts }
+pub run_is : (work : Option Work) (before after : Outside) (said : Said) (answer : Status) → Works work before.files after.files said → IsPut said before.lines after.lines answer
+    → IsRun work before after answer
+run_is work before after said answer works puts = record { said = said; works = works; puts = puts }
 
 -- an answer that is one of all done or of no memory stays one behind its line
 answered : (said : Said) (answer : Status) (Done : Status → Type 0) (before after : Outside) → NoneRose before after → OrNoMemory (Done said.answer) said.answer
@@ -128,7 +128,7 @@ told_demo : (n : ℕ) (told : Status) → OrNoMemory (IsDemo n told) told → Or
 told_demo n told (inl shown) = inl (shown.1, shown.4)
 told_demo n told (inr short) = inr short
 
-pub completes : (ask : Option Ask) (before after : Outside) (answer : Status) → IsRun ask before after answer → Completes ask before after answer
+pub completes : (work : Option Work) (before after : Outside) (answer : Status) → IsRun work before after answer → Completes work before after answer
 completes None before after answer run = tt
 completes (Some (Compile n)) before after answer run = λ m there none text table machine p reads tabled comes.
     answered run.said answer (λ s. s ≡ answers.Done (output_of machine p.records).summary) before after none

@@ -16,7 +16,7 @@ use Rattle.apt_part.specs.Compilation.{steps_of, part_of}
 use Rattle.apt_report.specs.declared.status.Status.{Status}
 use Rattle.apt_report.specs.declared.status.Status.TheVariants as answers
 use Rattle.apt_report.specs.declared.status.Summary.TheVariants as summaries
-use Rattle.apt_core.specs.Words.{FourNames, TapeNames, Ask, Compile, Certify, Decode, Listing, Demo, Guard}
+use Rattle.apt_core.specs.Words.{FourNames, TapeNames, Work, Compile, Certify, Decode, Listing, Demo, Guard}
 use Rattle.apt_core.specs.Due.{OrNoMemory, told_by, bad_machine, bad_part, refused_step, bad_tape, unless_refused, machine_due, steps_due, records_due, acts_due}
 use Rattle.apt_core.specs.Inputs.{Input, Files, part_inputs, inputs, guard_inputs, tape_inputs, list_inputs, IsUnread, IsFirstUnread, IsShort, IsStopped}
 use Rattle.apt_core.specs.Outputs.{output_due}
@@ -177,7 +177,7 @@ demo_no_usage : (n : ℕ) (told : Status) → OrNoMemory (IsDemo n told) told �
 demo_no_usage n told (inl shown) e = let f : answers.Done (summaries.Demo n shown.1) ≡ answers.Usage = sym shown.4 ∙ e in let g : ⊥ = cc in g
 demo_no_usage n told (inr short) e = let f : answers.NoMemory ≡ answers.Usage = sym short ∙ e in let g : ⊥ = cc in g
 
-works_no_usage : (ask : Option Ask) (before after : Files) (said : Said) → Works ask before after said → said.answer ≡ answers.Usage → ask ≡ None
+works_no_usage : (work : Option Work) (before after : Files) (said : Said) → Works work before after said → said.answer ≡ answers.Usage → work ≡ None
 works_no_usage None before after said works e = refl
 works_no_usage (Some (Compile n)) before after said works e = absurd (compiles_no_usage n before after said.answer works.1 e)
 works_no_usage (Some (Certify n)) before after said works e = absurd (certifies_no_usage n before after said.answer works.1 e)
@@ -192,6 +192,6 @@ put_no_usage said answer before after puts e = elim puts.shows [
   | inr front ↦ absurd (short_no_usage answers.WriteFault before.put_faults after.put_faults answer (λ e. let f : ⊥ = cc in f) front.0 e)
 ]
 
-pub usage_asked : (ask : Option Ask) (before after : Outside) (answer : Status) → IsRun ask before after answer → answer ≡ answers.Usage → ask ≡ None
-usage_asked ask before after answer run e =
-    works_no_usage ask before.files after.files run.said run.works (put_no_usage run.said answer before.lines after.lines run.puts e)
+pub usage_asked : (work : Option Work) (before after : Outside) (answer : Status) → IsRun work before after answer → answer ≡ answers.Usage → work ≡ None
+usage_asked work before after answer run e =
+    works_no_usage work before.files after.files run.said run.works (put_no_usage run.said answer before.lines after.lines run.puts e)

@@ -13,7 +13,7 @@ use Rattle.apt_part.specs.Compilation.{Compiled, part_of}
 use Rattle.apt_report.specs.declared.status.Status.{Status}
 use Rattle.apt_report.specs.declared.status.Status.TheVariants as answers
 use Rattle.apt_report.specs.declared.status.Summary.TheVariants as summaries
-use Rattle.apt_core.specs.Words.{FourNames, TapeNames, Ask, Compile, Certify, Decode, Listing, Demo, Guard}
+use Rattle.apt_core.specs.Words.{FourNames, TapeNames, Work, Compile, Certify, Decode, Listing, Demo, Guard}
 use Rattle.apt_core.specs.Due.{OrNoMemory}
 use Rattle.apt_core.specs.Inputs.{Files, files_on, AreRead, part_inputs, inputs, guard_inputs, tape_inputs, list_inputs, ReadsAll, IsShort, IsStopped}
 use Rattle.apt_core.specs.Outputs.{Output, output_of, output_due, IsOutput}
@@ -154,7 +154,7 @@ pub record Demonstrates (n : ℕ) (before after : Files) (told : Status) : Type 
 -- ---- a run
 
 -- the work that is asked for, none where the words fit no shape; it comes to what is told, and to the text that is put for it
-abbrev pub Works : Option Ask → Files → Files → Said → Type 0
+abbrev pub Works : Option Work → Files → Files → Said → Type 0
 Works None before after said = (said ≡ lined answers.Usage) × (after ≡ before)
 Works (Some (Compile n)) before after said = (said ≡ lined said.answer) × Compiles n before after said.answer
 Works (Some (Certify n)) before after said = (said ≡ lined said.answer) × Certifies n before after said.answer
@@ -175,9 +175,9 @@ pub record IsPut (said : Said) (before after : Lines) (answer : Status) : Type 0
   pub later : before.put_faults ≤ after.put_faults
 
 -- first all work is done, which comes to what is said, and then its text is put
-pub record IsRun (ask : Option Ask) (before after : Outside) (answer : Status) : Type 0 where
+pub record IsRun (work : Option Work) (before after : Outside) (answer : Status) : Type 0 where
   pub said : Said
-  pub works : Works ask before.files after.files said
+  pub works : Works work before.files after.files said
   pub puts : IsPut said before.lines after.lines answer
 
 -- ---- completeness
@@ -191,7 +191,7 @@ pub record NoneRose (before after : Outside) : Type 0 where
 -- for the machine of a table: a part without fault, of which no step is refused, is compiled; a CL file and a tape that are right for their part are
 -- certified, and guarded where no contour of theirs comes too near to a part of an outline; a tape that a control runs is decoded. A CL file is listed, and the part of
 -- `demo` is certified
-abbrev pub CompletesIn : Ask → Contents → Status → Type 0
+abbrev pub CompletesIn : Work → Contents → Status → Type 0
 CompletesIn (Compile n) m answer =
     (text table : List ℕ) (machine : Machine) (p : Compiled) → ReadsAll (Some m) (part_inputs n) (text ∷ table ∷ []) → table_of table ≡ Ok machine → part_of machine text ≡ Ok (Ok p)
     → OrNoMemory (answer ≡ answers.Done (output_of machine p.records).summary) answer
@@ -211,6 +211,6 @@ CompletesIn (Guard n name) m answer =
 CompletesIn (Demo n) m answer = OrNoMemory ((verdict : Verdict) × (answer ≡ answers.Done (summaries.Demo n verdict))) answer
 
 -- where no count rose, or memory ran out
-abbrev pub Completes : Option Ask → Outside → Outside → Status → Type 0
+abbrev pub Completes : Option Work → Outside → Outside → Status → Type 0
 Completes None before after answer = Unit {0}
-Completes (Some ask) before after answer = (m : Contents) → before.files.told ≡ Some m → NoneRose before after → CompletesIn ask m answer
+Completes (Some work) before after answer = (m : Contents) → before.files.told ≡ Some m → NoneRose before after → CompletesIn work m answer

@@ -27,13 +27,13 @@ tape_names_of machine tape = record { machine = machine; tape = tape }
 
 -- to compile a part for a machine, to a CL file and a tape; to certify a CL file and a tape against them; to decode a tape of the machine; to list the
 -- points of the CL file of a name; to show the part of so many circles; or to certify, and guard the outline of a name
-pub data Ask : Type 0 where
-  Compile : FourNames → Ask
-  Certify : FourNames → Ask
-  Decode : TapeNames → Ask
-  Listing : List ℕ → Ask
-  Demo : ℕ → Ask
-  Guard : FourNames → List ℕ → Ask
+pub data Work : Type 0 where
+  Compile : FourNames → Work
+  Certify : FourNames → Work
+  Decode : TapeNames → Work
+  Listing : List ℕ → Work
+  Demo : ℕ → Work
+  Guard : FourNames → List ℕ → Work
 
 -- a name has at least one byte
 abbrev pub is_name : List ℕ → Bool
@@ -49,38 +49,38 @@ differ a b = not (bytes_eq a b)
 abbrev pub are_apart : FourNames → Bool
 are_apart n = differ n.cl n.part && differ n.cl n.machine && differ n.cl n.tape && differ n.tape n.part && differ n.tape n.machine
 
-abbrev pub compile_ask : FourNames → Option Ask
-compile_ask n = if are_names n && are_apart n then Some (Compile n) else None
+abbrev pub compile_work : FourNames → Option Work
+compile_work n = if are_names n && are_apart n then Some (Compile n) else None
 
-abbrev pub certify_ask : FourNames → Option Ask
-certify_ask n = if are_names n then Some (Certify n) else None
+abbrev pub certify_work : FourNames → Option Work
+certify_work n = if are_names n then Some (Certify n) else None
 
-abbrev pub command_ask : List ℕ → FourNames → Option Ask
-command_ask word n = if bytes_eq word (codes "compile") then compile_ask n else if bytes_eq word (codes "certify") then certify_ask n else None
+abbrev pub command_work : List ℕ → FourNames → Option Work
+command_work word n = if bytes_eq word (codes "compile") then compile_work n else if bytes_eq word (codes "certify") then certify_work n else None
 
 abbrev pub are_tape_names : TapeNames → Bool
 are_tape_names n = is_name n.machine && is_name n.tape
 
-abbrev pub decode_ask : List ℕ → TapeNames → Option Ask
-decode_ask word n = if bytes_eq word (codes "decode") && are_tape_names n then Some (Decode n) else None
+abbrev pub decode_work : List ℕ → TapeNames → Option Work
+decode_work word n = if bytes_eq word (codes "decode") && are_tape_names n then Some (Decode n) else None
 
-abbrev pub list_ask : List ℕ → Option Ask
-list_ask name = if is_name name then Some (Listing name) else None
+abbrev pub list_work : List ℕ → Option Work
+list_work name = if is_name name then Some (Listing name) else None
 
 -- a number from 1 to 800, in plain digits
-abbrev pub demo_ask : List ℕ → Option Ask
-demo_ask text = option_map Demo (number_within 1 800 text)
+abbrev pub demo_work : List ℕ → Option Work
+demo_work text = option_map Demo (number_within 1 800 text)
 
-abbrev pub word_ask : List ℕ → List ℕ → Option Ask
-word_ask word text = if bytes_eq word (codes "list") then list_ask text else if bytes_eq word (codes "demo") then demo_ask text else None
+abbrev pub word_work : List ℕ → List ℕ → Option Work
+word_work word text = if bytes_eq word (codes "list") then list_work text else if bytes_eq word (codes "demo") then demo_work text else None
 
-abbrev pub guard_ask : List ℕ → FourNames → List ℕ → Option Ask
-guard_ask word n outline = if bytes_eq word (codes "guard") && are_names n && is_name outline then Some (Guard n outline) else None
+abbrev pub guard_work : List ℕ → FourNames → List ℕ → Option Work
+guard_work word n outline = if bytes_eq word (codes "guard") && are_names n && is_name outline then Some (Guard n outline) else None
 
 -- what the words ask, by their shapes; none where they fit no shape
-abbrev pub asked : List (List ℕ) → Option Ask
-asked (word ∷ part ∷ machine ∷ cl ∷ tape ∷ []) = command_ask word (names_of part machine cl tape)
-asked (word ∷ part ∷ machine ∷ cl ∷ tape ∷ outline ∷ []) = guard_ask word (names_of part machine cl tape) outline
-asked (word ∷ machine ∷ tape ∷ []) = decode_ask word (tape_names_of machine tape)
-asked (word ∷ text ∷ []) = word_ask word text
-asked _ = None
+abbrev pub work_in : List (List ℕ) → Option Work
+work_in (word ∷ part ∷ machine ∷ cl ∷ tape ∷ []) = command_work word (names_of part machine cl tape)
+work_in (word ∷ part ∷ machine ∷ cl ∷ tape ∷ outline ∷ []) = guard_work word (names_of part machine cl tape) outline
+work_in (word ∷ machine ∷ tape ∷ []) = decode_work word (tape_names_of machine tape)
+work_in (word ∷ text ∷ []) = word_work word text
+work_in _ = None

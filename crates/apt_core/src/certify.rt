@@ -51,7 +51,7 @@ pub(crate) fn certify<H: Shelf, G: Gate>(
     ensures { Certifies (four_names names.entry) (files_on H.Shelf shelf.old) (files_on H.Shelf shelf.new) (answer_of result) }
 {
     let evidence = evidence_of(alloc, shelf, names)?;
-    judged(rt, alloc, evidence, gate)
+    judge_evidence(rt, alloc, evidence, gate)
 }
 
 /// Reads the part, the machine table, the CL file and the tape, each to its end, or gives the answer for the first that
@@ -119,7 +119,7 @@ fn difference_in(run: Result<Comparison<'_>, ControlError>) -> Result<Option<u64
 
 /// What is found of a part, of a CL file's records, and of where a tape first differs from their plan, on a machine. The
 /// records go as their jobs are made, to keep the peak of memory low.
-fn judged<G: Gate>(
+fn judge_evidence<G: Gate>(
     rt: &(impl Threads + Sync),
     alloc: Global,
     evidence: Evidence,

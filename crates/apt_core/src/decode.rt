@@ -35,7 +35,7 @@ pub(crate) fn decode<H: Shelf>(
         Ok(machine) => {
             let none = ActLines::none(alloc);
             let run = run_input(alloc, shelf, names.tape, &machine, none)?;
-            decoded(run)
+            list_acts(run)
         }
         Err(answer) => {
             // a tape that can't be read is told before the table's fault
@@ -46,7 +46,7 @@ pub(crate) fn decode<H: Shelf>(
 }
 
 /// The lines of the acts to which a control ran a tape.
-fn decoded(run: Result<ActLines, ControlError>) -> Result<Reply, Status>
+fn list_acts(run: Result<ActLines, ControlError>) -> Result<Reply, Status>
     ensures { (machine : Machine) (table tape : List ℕ) (none : ActLines) → table_of table ≡ Ok machine → IsTaken (⟦<ActLines as Taker>⟧.has none) (run_on machine tape) run → IsSaid (said_of (said_due table tape)) (said_of result) }
 {
     match run {

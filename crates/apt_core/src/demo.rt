@@ -40,7 +40,7 @@ pub(crate) fn demo<G: Gate>(
 {
     let mut store = store_of(alloc, n)?;
     match status_of(compile(rt, alloc, &mut store, NAMES, gate)) {
-        Status::Done(_) => shown(n, status_of(certify(rt, alloc, &mut store, NAMES, gate))),
+        Status::Done(_) => demo_answer(n, status_of(certify(rt, alloc, &mut store, NAMES, gate))),
         fault => Err(fault),
     }
 }
@@ -64,7 +64,7 @@ fn store_of(alloc: Global, n: u32) -> Result<SureShelf, AllocError>
 }
 
 /// The answer of a certificate, as it is shown.
-fn shown(n: u32, answer: Status) -> Result<Summary, Status>
+fn demo_answer(n: u32, answer: Status) -> Result<Summary, Status>
     ensures { answer_of result ≡ shown_for n answer }
 {
     match answer {

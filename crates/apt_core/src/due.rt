@@ -35,7 +35,7 @@ pub(crate) fn machine_of(text: &[u8]) -> Result<Machine, Status>
 }
 
 /// How a part that has a fault, or a refused step, is told.
-fn told(error: PartError) -> Status
+fn part_status(error: PartError) -> Status
     ensures { result ≡ part_told error }
 {
     match error {
@@ -65,7 +65,7 @@ pub(crate) fn part_on<G: Gate>(
 {
     match part_of(rt, alloc, text, machine, gate) {
         Ok(part) => Ok(part),
-        Err(error) => Err(told(error)),
+        Err(error) => Err(part_status(error)),
     }
 }
 
@@ -79,7 +79,7 @@ pub(crate) fn steps_on(alloc: Global, text: Vec<u8>, machine: &Machine) -> Resul
 {
     match steps_of(alloc, text, machine) {
         Ok(steps) => Ok(steps),
-        Err(error) => Err(told(error)),
+        Err(error) => Err(part_status(error)),
     }
 }
 

@@ -39,12 +39,12 @@ pub(crate) fn guard<H: Shelf, G: Gate>(
 {
     let evidence = evidence_of(alloc, shelf, names)?;
     let text = read_input(alloc, shelf, name, OUTLINE_LIMIT)?;
-    guarded(rt, alloc, evidence, &text, gate)
+    guard_evidence(rt, alloc, evidence, &text, gate)
 }
 
 /// What is found of a part, of a CL file's records, of where a tape first differs from their plan, and of an outline, on a
 /// machine.
-fn guarded<G: Gate>(
+fn guard_evidence<G: Gate>(
     rt: &(impl Threads + Sync),
     alloc: Global,
     evidence: Evidence,

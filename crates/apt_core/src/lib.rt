@@ -2,8 +2,8 @@
 #![tactic(auto)]
 
 ghost use Rattle.std.specs.Prelude.{◌≡◌, Some, None};
-ghost use Rattle.apt_core.specs.Words.{asked, texts};
-ghost use Rattle.apt_core.specs.Request.{ask_of, IsSound};
+ghost use Rattle.apt_core.specs.Words.{work_in, texts};
+ghost use Rattle.apt_core.specs.Request.{work_of, IsSound};
 ghost use Rattle.apt_core.specs.Inputs.{files_on};
 ghost use Rattle.apt_core.specs.Promise.{IsRun, Completes, Works, outside};
 
@@ -76,10 +76,10 @@ pub fn apt<H: Shelf, K: Sink, G: Gate>(
     out: &mut K,
     gate: &G,
 ) -> Status
-    ensures runs { IsRun (asked (texts words.now)) (outside H.Shelf K.Sink shelf.old out.old) (outside H.Shelf K.Sink shelf.new out.new) result }
-    ensures usage { result ≡ Status.Usage → asked (texts words.now) ≡ None }
-    ensures untouched { asked (texts words.now) ≡ None → shelf.new ≡ shelf.old }
-    ensures complete { Completes (asked (texts words.now)) (outside H.Shelf K.Sink shelf.old out.old) (outside H.Shelf K.Sink shelf.new out.new) result }
+    ensures runs { IsRun (work_in (texts words.now)) (outside H.Shelf K.Sink shelf.old out.old) (outside H.Shelf K.Sink shelf.new out.new) result }
+    ensures usage { result ≡ Status.Usage → work_in (texts words.now) ≡ None }
+    ensures untouched { work_in (texts words.now) ≡ None → shelf.new ≡ shelf.old }
+    ensures complete { Completes (work_in (texts words.now)) (outside H.Shelf K.Sink shelf.old out.old) (outside H.Shelf K.Sink shelf.new out.new) result }
 {
     let reply = answer(rt, alloc, words, shelf, gate);
     tell(alloc, out, reply)
@@ -93,12 +93,12 @@ fn answer<H: Shelf, G: Gate>(
     shelf: &mut H,
     gate: &G,
 ) -> Reply
-    ensures works { Works (asked (texts words.now)) (files_on H.Shelf shelf.old) (files_on H.Shelf shelf.new) result }
-    ensures untouched { asked (texts words.now) ≡ None → shelf.new ≡ shelf.old }
+    ensures works { Works (work_in (texts words.now)) (files_on H.Shelf shelf.old) (files_on H.Shelf shelf.new) result }
+    ensures untouched { work_in (texts words.now) ≡ None → shelf.new ≡ shelf.old }
 {
     match request_of(words) {
         Some(request) => answer_to(rt, alloc, request, shelf, gate),
-        None => Reply::lined(Status::Usage),
+        None => Reply::with_line(Status::Usage),
     }
 }
 
@@ -111,7 +111,7 @@ fn answer_to<H: Shelf, G: Gate>(
     gate: &G,
 ) -> Reply
     requires { IsSound request }
-    ensures { Works (Some (ask_of request.entry)) (files_on H.Shelf shelf.old) (files_on H.Shelf shelf.new) result }
+    ensures { Works (Some (work_of request.entry)) (files_on H.Shelf shelf.old) (files_on H.Shelf shelf.new) result }
 {
     match request {
         Request::Compile(names) => Reply::of(compile(rt, alloc, shelf, names, gate)),

@@ -20,11 +20,11 @@ pub(crate) fn list<H: Shelf>(alloc: Global, shelf: &mut H, name: &str) -> Result
     ensures { Lists name.now (files_on H.Shelf shelf.old) (files_on H.Shelf shelf.new) (said_of result) }
 {
     let records = records_input(alloc, shelf, name)?;
-    listed(alloc, records)
+    list_records(alloc, records)
 }
 
 /// The points of a CL file's records, each with its line, or the answer where it is none.
-fn listed(alloc: Global, records: Result<Vec<Record>, Status>) -> Result<Reply, Status>
+fn list_records(alloc: Global, records: Result<Vec<Record>, Status>) -> Result<Reply, Status>
     ensures { (cl : List ℕ) → MatchResult records (λ r. read_of cl ≡ Ok r.items) (ComesToNone (records_due cl)) → IsSaid (said_of (listed_due cl)) (said_of result) }
 {
     let records = records?;

@@ -28,7 +28,7 @@ impl Model for Reply {
 
 impl Reply {
     /// An answer with its own line.
-    pub(crate) fn lined(status: Status) -> Reply
+    pub(crate) fn with_line(status: Status) -> Reply
         ensures { result ≡ lined status }
     {
         Reply {
@@ -43,7 +43,7 @@ impl Reply {
     {
         match work {
             Ok(reply) => reply,
-            Err(status) => Reply::lined(status),
+            Err(status) => Reply::with_line(status),
         }
     }
 
@@ -51,7 +51,7 @@ impl Reply {
     pub(crate) fn of(work: Result<Summary, Status>) -> Reply
         ensures { result ≡ lined (answer_of work) }
     {
-        Reply::lined(status_of(work))
+        Reply::with_line(status_of(work))
     }
 }
 

@@ -2,8 +2,8 @@
 
 ghost use Rattle.std.specs.Prelude.{◌≡◌, option_map, IfSome};
 ghost use Rattle.apt_core.specs.Words as words;
-ghost use Rattle.apt_core.specs.Words.{asked, texts};
-ghost use Rattle.apt_core.specs.Request.{ask_of, four_names, tape_names, IsSound};
+ghost use Rattle.apt_core.specs.Words.{work_in, texts};
+ghost use Rattle.apt_core.specs.Request.{work_of, four_names, tape_names, IsSound};
 
 use apt_machine::number_within;
 
@@ -39,7 +39,7 @@ pub(crate) enum Request<'a> {
 
 /// The command that the words ask for.
 pub(crate) fn request_of<'a>(words: &'a [String]) -> Option<Request<'a>>
-    ensures ask { option_map ask_of result ≡ asked (texts words.now) }
+    ensures work { option_map work_of result ≡ work_in (texts words.now) }
     ensures sound { IfSome result IsSound }
 {
     match words {
@@ -69,7 +69,7 @@ pub(crate) fn request_of<'a>(words: &'a [String]) -> Option<Request<'a>>
 }
 
 fn command_request<'a>(word: &str, names: Names<'a>) -> Option<Request<'a>>
-    ensures ask { option_map ask_of result ≡ words.command_ask word.now (four_names names.entry) }
+    ensures work { option_map work_of result ≡ words.command_work word.now (four_names names.entry) }
     ensures sound { IfSome result IsSound }
 {
     if word == "compile" {
@@ -83,7 +83,7 @@ fn command_request<'a>(word: &str, names: Names<'a>) -> Option<Request<'a>>
 
 #[tactic(auto, using(crate::proofs::Apart::outputs_differ))]
 fn compile_request<'a>(names: Names<'a>) -> Option<Request<'a>>
-    ensures ask { option_map ask_of result ≡ words.compile_ask (four_names names.entry) }
+    ensures work { option_map work_of result ≡ words.compile_work (four_names names.entry) }
     ensures sound { IfSome result IsSound }
 {
     if are_names(&names) && are_apart(&names) {
@@ -94,7 +94,7 @@ fn compile_request<'a>(names: Names<'a>) -> Option<Request<'a>>
 }
 
 fn certify_request<'a>(names: Names<'a>) -> Option<Request<'a>>
-    ensures ask { option_map ask_of result ≡ words.certify_ask (four_names names.entry) }
+    ensures work { option_map work_of result ≡ words.certify_work (four_names names.entry) }
     ensures sound { IfSome result IsSound }
 {
     if are_names(&names) {
@@ -105,7 +105,7 @@ fn certify_request<'a>(names: Names<'a>) -> Option<Request<'a>>
 }
 
 fn guard_request<'a>(word: &str, names: Names<'a>, outline: &'a str) -> Option<Request<'a>>
-    ensures ask { option_map ask_of result ≡ words.guard_ask word.now (four_names names.entry) outline.now }
+    ensures work { option_map work_of result ≡ words.guard_work word.now (four_names names.entry) outline.now }
     ensures sound { IfSome result IsSound }
 {
     if word == "guard" && are_names(&names) && !outline.is_empty() {
@@ -116,7 +116,7 @@ fn guard_request<'a>(word: &str, names: Names<'a>, outline: &'a str) -> Option<R
 }
 
 fn decode_request<'a>(word: &str, names: TapeNames<'a>) -> Option<Request<'a>>
-    ensures ask { option_map ask_of result ≡ words.decode_ask word.now (tape_names names.entry) }
+    ensures work { option_map work_of result ≡ words.decode_work word.now (tape_names names.entry) }
     ensures sound { IfSome result IsSound }
 {
     if word == "decode" && are_tape_names(&names) {
@@ -127,7 +127,7 @@ fn decode_request<'a>(word: &str, names: TapeNames<'a>) -> Option<Request<'a>>
 }
 
 fn word_request<'a>(word: &str, text: &'a str) -> Option<Request<'a>>
-    ensures ask { option_map ask_of result ≡ words.word_ask word.now text.now }
+    ensures work { option_map work_of result ≡ words.word_work word.now text.now }
     ensures sound { IfSome result IsSound }
 {
     if word == "list" {
@@ -140,7 +140,7 @@ fn word_request<'a>(word: &str, text: &'a str) -> Option<Request<'a>>
 }
 
 fn list_request<'a>(name: &'a str) -> Option<Request<'a>>
-    ensures ask { option_map ask_of result ≡ words.list_ask name.now }
+    ensures work { option_map work_of result ≡ words.list_work name.now }
     ensures sound { IfSome result IsSound }
 {
     if name.is_empty() {
@@ -151,7 +151,7 @@ fn list_request<'a>(name: &'a str) -> Option<Request<'a>>
 }
 
 fn demo_request<'a>(text: &str) -> Option<Request<'a>>
-    ensures ask { option_map ask_of result ≡ words.demo_ask text.now }
+    ensures work { option_map work_of result ≡ words.demo_work text.now }
     ensures sound { IfSome result IsSound }
 {
     let n = number_within(1, MOST_CIRCLES, text.as_bytes())?;

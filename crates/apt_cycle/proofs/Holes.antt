@@ -47,11 +47,7 @@ rapid_is : (a : ArcAct) (m : ℤ × ℤ × ℤ) → rapid_of a ≡ Some m → a 
 rapid_is (arcs.Plain (acts.Rapid x y z)) m e = let same : (x, y, z) ≡ m = cc in ap (λ (n : ℤ × ℤ × ℤ). arcs.Plain (acts.Rapid n.0 n.1 n.2)) same
 rapid_is (arcs.Plain (acts.Units u)) m e = absurd cc
 rapid_is (arcs.Plain (acts.Cut x y z feed)) m e = absurd cc
-rapid_is (arcs.Plain (acts.Spindle turn n)) m e = absurd cc
-rapid_is (arcs.Plain (acts.Coolant c)) m e = absurd cc
-rapid_is (arcs.Plain (acts.Tool n)) m e = absurd cc
-rapid_is (arcs.Plain acts.Stop) m e = absurd cc
-rapid_is (arcs.Plain acts.OptStop) m e = absurd cc
+rapid_is (arcs.Plain (acts.Do command)) m e = absurd cc
 rapid_is (arcs.Plain acts.End) m e = absurd cc
 rapid_is (arcs.Arc turn x y z cx cy feed) m e = absurd cc
 
@@ -59,11 +55,7 @@ cut_is : (a : ArcAct) (m : ℤ × ℤ × ℤ × ℤ) → cut_of a ≡ Some m →
 cut_is (arcs.Plain (acts.Cut x y z feed)) m e = let same : (x, y, z, feed) ≡ m = cc in ap (λ (n : ℤ × ℤ × ℤ × ℤ). arcs.Plain (acts.Cut n.0 n.1 n.2 n.3)) same
 cut_is (arcs.Plain (acts.Units u)) m e = absurd cc
 cut_is (arcs.Plain (acts.Rapid x y z)) m e = absurd cc
-cut_is (arcs.Plain (acts.Spindle turn n)) m e = absurd cc
-cut_is (arcs.Plain (acts.Coolant c)) m e = absurd cc
-cut_is (arcs.Plain (acts.Tool n)) m e = absurd cc
-cut_is (arcs.Plain acts.Stop) m e = absurd cc
-cut_is (arcs.Plain acts.OptStop) m e = absurd cc
+cut_is (arcs.Plain (acts.Do command)) m e = absurd cc
 cut_is (arcs.Plain acts.End) m e = absurd cc
 cut_is (arcs.Arc turn x y z cx cy feed) m e = absurd cc
 

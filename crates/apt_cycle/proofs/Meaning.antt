@@ -179,11 +179,7 @@ pub motion_holds : (P : Option ℕ → Type 0) → P (Some 0) → P (Some 1) →
 motion_holds P rapid cut right left incremental held (arcs.Plain (acts.Units u)) is = is
 motion_holds P rapid cut right left incremental held (arcs.Plain (acts.Rapid x y z)) is = rapid
 motion_holds P rapid cut right left incremental held (arcs.Plain (acts.Cut x y z feed)) is = cut
-motion_holds P rapid cut right left incremental held (arcs.Plain (acts.Spindle turn n)) is = is
-motion_holds P rapid cut right left incremental held (arcs.Plain (acts.Coolant c)) is = is
-motion_holds P rapid cut right left incremental held (arcs.Plain (acts.Tool n)) is = is
-motion_holds P rapid cut right left incremental held (arcs.Plain acts.Stop) is = is
-motion_holds P rapid cut right left incremental held (arcs.Plain acts.OptStop) is = is
+motion_holds P rapid cut right left incremental held (arcs.Plain (acts.Do command)) is = is
 motion_holds P rapid cut right left incremental held (arcs.Plain acts.End) is = is
 motion_holds P rapid cut right left incremental held (arcs.Arc turn x y z cx cy feed) is = by (int_eq turn (pos 1))
   where

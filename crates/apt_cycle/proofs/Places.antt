@@ -23,11 +23,7 @@ pub same_behind : (incremental : Bool) (held now : Held) (act : ArcAct) → IsSa
 same_behind incremental held now (arcs.Plain (acts.Units u)) same = record { x = same.x; y = same.y; z = same.z }
 same_behind incremental held now (arcs.Plain (acts.Rapid x y z)) same = record { x = refl; y = refl; z = refl }
 same_behind incremental held now (arcs.Plain (acts.Cut x y z feed)) same = record { x = refl; y = refl; z = refl }
-same_behind incremental held now (arcs.Plain (acts.Spindle turn n)) same = same
-same_behind incremental held now (arcs.Plain (acts.Coolant c)) same = same
-same_behind incremental held now (arcs.Plain (acts.Tool n)) same = same
-same_behind incremental held now (arcs.Plain acts.Stop) same = same
-same_behind incremental held now (arcs.Plain acts.OptStop) same = same
+same_behind incremental held now (arcs.Plain (acts.Do command)) same = same
 same_behind incremental held now (arcs.Plain acts.End) same = same
 same_behind incremental held now (arcs.Arc turn x y z cx cy feed) same = record { x = refl; y = refl; z = refl }
 

@@ -42,11 +42,7 @@ to_the_end_fits [] is = absurd is
 to_the_end_fits (acts.Units u ∷ more) is = (is.0, to_the_end_fits more is.1)
 to_the_end_fits (acts.Rapid x y z ∷ more) is = (is.0, to_the_end_fits more is.1)
 to_the_end_fits (acts.Cut x y z feed ∷ more) is = (is.0, to_the_end_fits more is.1)
-to_the_end_fits (acts.Spindle turn n ∷ more) is = (is.0, to_the_end_fits more is.1)
-to_the_end_fits (acts.Coolant c ∷ more) is = (is.0, to_the_end_fits more is.1)
-to_the_end_fits (acts.Tool n ∷ more) is = (is.0, to_the_end_fits more is.1)
-to_the_end_fits (acts.Stop ∷ more) is = (is.0, to_the_end_fits more is.1)
-to_the_end_fits (acts.OptStop ∷ more) is = (is.0, to_the_end_fits more is.1)
+to_the_end_fits (acts.Do command ∷ more) is = (is.0, to_the_end_fits more is.1)
 to_the_end_fits (acts.End ∷ []) is = tt
 to_the_end_fits (acts.End ∷ act ∷ more) is = absurd is
 
@@ -55,11 +51,7 @@ program_fits [] is = absurd is
 program_fits (acts.Units u ∷ more) is = to_the_end_fits more is
 program_fits (acts.Rapid x y z ∷ more) is = absurd is
 program_fits (acts.Cut x y z feed ∷ more) is = absurd is
-program_fits (acts.Spindle turn n ∷ more) is = absurd is
-program_fits (acts.Coolant c ∷ more) is = absurd is
-program_fits (acts.Tool n ∷ more) is = absurd is
-program_fits (acts.Stop ∷ more) is = absurd is
-program_fits (acts.OptStop ∷ more) is = absurd is
+program_fits (acts.Do command ∷ more) is = absurd is
 program_fits (acts.End ∷ more) is = absurd is
 
 pub plain_goes : (at : Option Position) (done : List Act) → ArcsCan at (map arcs.Plain done)

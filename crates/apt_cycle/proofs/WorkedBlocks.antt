@@ -1,6 +1,7 @@
 -- Runs over small tapes of a control with drill cycles, which the checker computes.
 use Rattle.std.specs.Prelude.{◌≡◌, ℕ, ℤ, pos, negsuc, Bool, true, false, List, [], ◌∷◌, ◌++◌, Ok, Err, Result, map, codes}
 use Rattle.std.proofs.Common.{refl}
+use Rattle.apt_words.specs.declared.Command.TheVariants as commands
 use Rattle.apt_words.specs.declared.Units.TheVariants.{Inch}
 use Rattle.apt_words.specs.declared.Turn.TheVariants.{Cw}
 use Rattle.apt_words.specs.declared.Cool.TheVariants as coolants
@@ -42,7 +43,7 @@ then_a_cut = refl
 
 -- a block without X and Y is no hole
 spindle_and_coolant : run_of (codes "G81X1Y2Z-5R5F9S5M03\nM08\nX9M09\n")
-    ≡ to_the_end (Plain (acts.Spindle Cw (pos 5)) ∷ hole 1 2 five_down ++ Plain (acts.Coolant coolants.Flood) ∷ hole 9 2 five_down ++ Plain (acts.Coolant coolants.Off) ∷ [])
+    ≡ to_the_end (Plain (acts.Do (commands.Spindle Cw (pos 5))) ∷ hole 1 2 five_down ++ Plain (acts.Do (commands.Coolant coolants.Flood)) ∷ hole 9 2 five_down ++ Plain (acts.Do (commands.Coolant coolants.Off)) ∷ [])
 spindle_and_coolant = refl
 
 -- a new G81 forgets Z and R

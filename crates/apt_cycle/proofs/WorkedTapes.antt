@@ -1,6 +1,7 @@
 -- Tapes of acts with holes among them, which the checker writes.
 use Rattle.std.specs.Prelude.{◌≡◌, ℕ, ℤ, pos, negsuc, true, false, List, [], ◌∷◌, ◌++◌, codes}
 use Rattle.std.proofs.Common.{refl}
+use Rattle.apt_words.specs.declared.Command.TheVariants as commands
 use Rattle.apt_words.specs.declared.Units.TheVariants.{Inch}
 use Rattle.apt_tapecode.specs.declared.Code.TheVariants.{Rs358}
 use Rattle.apt_machine.specs.declared.machine.Machine.{Machine}
@@ -52,7 +53,7 @@ brief_between : cycle_text brief (program (hole 100000 ++ cut 100000 (pos 110000
 brief_between = refl
 
 -- a stop between two holes
-stop_between : cycle_text brief (program (hole 0 ++ Plain acts.Stop ∷ hole 100000))
+stop_between : cycle_text brief (program (hole 0 ++ Plain (acts.Do commands.Stop) ∷ hole 100000))
     ≡ codes "%\nN1G70G90G94\nN2G81X+0Y+0Z-25000R+10000F50\nN3G80\nN4M00\nN5G81X+100000Y+0Z-25000R+10000F50\nN6G80\nN7M02\n"
 stop_between = refl
 

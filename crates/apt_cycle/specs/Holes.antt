@@ -15,27 +15,11 @@ use Rattle.apt_cycle.specs.declared.hole.Hole.{Hole}
 -- the end of a rapid move, and that of a cut with its feed
 abbrev pub rapid_of : ArcAct → Option (ℤ × ℤ × ℤ)
 rapid_of (arcs.Plain (acts.Rapid x y z)) = Some (x, y, z)
-rapid_of (arcs.Plain (acts.Units u)) = None
-rapid_of (arcs.Plain (acts.Cut x y z feed)) = None
-rapid_of (arcs.Plain (acts.Spindle turn n)) = None
-rapid_of (arcs.Plain (acts.Coolant c)) = None
-rapid_of (arcs.Plain (acts.Tool n)) = None
-rapid_of (arcs.Plain acts.Stop) = None
-rapid_of (arcs.Plain acts.OptStop) = None
-rapid_of (arcs.Plain acts.End) = None
-rapid_of (arcs.Arc turn x y z cx cy feed) = None
+rapid_of _ = None
 
 abbrev pub cut_of : ArcAct → Option (ℤ × ℤ × ℤ × ℤ)
 cut_of (arcs.Plain (acts.Cut x y z feed)) = Some (x, y, z, feed)
-cut_of (arcs.Plain (acts.Units u)) = None
-cut_of (arcs.Plain (acts.Rapid x y z)) = None
-cut_of (arcs.Plain (acts.Spindle turn n)) = None
-cut_of (arcs.Plain (acts.Coolant c)) = None
-cut_of (arcs.Plain (acts.Tool n)) = None
-cut_of (arcs.Plain acts.Stop) = None
-cut_of (arcs.Plain acts.OptStop) = None
-cut_of (arcs.Plain acts.End) = None
-cut_of (arcs.Arc turn x y z cx cy feed) = None
+cut_of _ = None
 
 -- one position is over another
 abbrev pub is_over : ℤ → ℤ → ℤ → ℤ → Bool

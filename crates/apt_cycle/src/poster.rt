@@ -98,7 +98,7 @@ impl CyclePoster {
         ensures next { self.new ≡ behind_told self.old (spec.closed self.old.held) }
         ensures few { self.old.steps < 9999 }
     {
-        let now = closed(self.poster.held());
+        let now = without_motion(self.poster.held());
         self.poster.whole(&[g(80)], &now)
     }
 
@@ -153,13 +153,13 @@ impl CyclePoster {
         ensures block { text.new.items ≡ text.old.items ++ map (byte_of self.old.machine.code) (spelling self.old.machine.short (next_number self.old ++ blocks.g 80 ∷ [])) }
         ensures next { self.new ≡ behind_told self.old (spec.closed self.old.held) }
     {
-        let now = closed(self.poster.held());
+        let now = without_motion(self.poster.held());
         self.poster.push_whole_bytes(text, &[g(80)], &now);
     }
 }
 
 /// What holds where no motion code does any longer.
-fn closed(held: &Held) -> Held
+fn without_motion(held: &Held) -> Held
     ensures { result ≡ spec.closed held.now }
 {
     Held {

@@ -70,24 +70,16 @@ one_or_two r = names_with r.0 r.1
 -- ---- a lone name whose latest value is a point
 
 abbrev pub point_named : List ℕ → Option Value → Option (List ℕ)
-point_named n None = None
-point_named n (Some (values.Scalar v)) = None
 point_named n (Some (values.Shape kinds.Point)) = Some n
-point_named n (Some (values.Shape kinds.Line)) = None
-point_named n (Some (values.Shape kinds.Circle)) = None
-point_named n (Some (values.Shape kinds.Pattern)) = None
+point_named n _ = None
 
 abbrev pub point_in : Names → Result (List ℕ) Case → Option (List ℕ)
 point_in names (Ok n) = point_named n (meaning names n)
 point_in names (Err case) = None
 
 abbrev pub lone_point : Names → Parameters → Tree → Option (List ℕ)
-lone_point names ps (Num v) = None
 lone_point names ps (Name n) = point_in names (name_for ps n)
-lone_point names ps (Neg t) = None
-lone_point names ps (Bin op a b) = None
-lone_point names ps (Root t) = None
-lone_point names ps (Abs t) = None
+lone_point names ps _ = None
 
 abbrev pub with_point : Option (List ℕ) → Option (List (List ℕ)) → Option (List (List ℕ))
 with_point None more = None
@@ -108,12 +100,8 @@ nth none (x ∷ xs) (suc k) = nth none xs k
 
 -- the latest value of a name is a pattern
 abbrev pub is_pattern : Option Value → Bool
-is_pattern None = false
-is_pattern (Some (values.Scalar v)) = false
-is_pattern (Some (values.Shape kinds.Point)) = false
-is_pattern (Some (values.Shape kinds.Line)) = false
-is_pattern (Some (values.Shape kinds.Circle)) = false
 is_pattern (Some (values.Shape kinds.Pattern)) = true
+is_pattern _ = false
 
 -- a name that may stand for a pattern has its own deed where it does
 abbrev pub pattern_or : Option (Meanings → Deed) → Bool → Meanings → Deed → Deed
@@ -161,11 +149,8 @@ definition_by ask = option_map (λ d. (d.0, value_by d.1)) (defined_by ask)
 
 -- the name that a step gives to a pattern
 abbrev pub pattern_by : Option Drill → Option (List ℕ × Value)
-pattern_by None = None
 pattern_by (Some (drills.Pattern n p q v)) = Some (n, values.Shape kinds.Pattern)
-pattern_by (Some (drills.Cycle d c)) = None
-pattern_by (Some drills.Off) = None
-pattern_by (Some (drills.Visit n)) = None
+pattern_by _ = None
 
 abbrev pub names_after : Names → Option (List ℕ × Value) → Names
 names_after names None = names

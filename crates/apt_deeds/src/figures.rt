@@ -89,6 +89,7 @@ pub(crate) fn figure(env: &Env, frame: &Frame, body: &Body) -> Result<Deed, Case
             let (v, p, q) = value_and_pair(env, frame, e, p, q)?;
             Ok(Deed::Patern(n.copied(), p, q, v))
         }
+        // The statement defines a figure.
         _ => unreachable!(),
     }
 }

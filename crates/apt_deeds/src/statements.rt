@@ -6,7 +6,7 @@ ghost use Rattle.apt_deeds.specs.Texts as texts;
 use crate::arguments::{both, coordinates, is_pattern, name_for, surfaces, three, value_and_pair};
 use crate::figures::figure;
 use apt_scalar::{Env, Frame, eval};
-use apt_words::{Body, Case, Deed};
+use apt_words::{Body, Case, Command, Contouring, Deed, Turn};
 
 /// What a statement does; one whose text has to be copied is handled before.
 #[tactic(auto, unfolding(crate::specs::Deeds::executed, crate::specs::Deeds::by_values))]
@@ -15,6 +15,7 @@ pub(crate) fn execution(env: &Env, frame: &Frame, body: &Body) -> Result<Deed, C
     ensures { result ≡ deeds.execution env.now frame.now body.now }
 {
     match body {
+        // A text is copied by the caller.
         Body::Partno(_) | Body::Remark(_) => unreachable!(),
         Body::Units(units) => Ok(Deed::Units(*units)),
         Body::Clprnt => Ok(Deed::Clprnt),
@@ -52,20 +53,28 @@ pub(crate) fn execution(env: &Env, frame: &Frame, body: &Body) -> Result<Deed, C
             let (s, other) = surfaces(frame, s, other)?;
             Ok(Deed::GoStart(*stop, s, other))
         }
-        Body::Contour(side, go, d, stop, c, e) => {
-            let (n, d, c) = value_and_pair(env, frame, e, d, c)?;
-            Ok(Deed::Contour(*side, *go, d, *stop, c, n))
+        Body::Contour(contour, e) => {
+            let (n, drive, check) = value_and_pair(env, frame, e, &contour.drive, &contour.check)?;
+            let (side, go, stop) = (contour.side, contour.go, contour.stop);
+            let contour = Contouring {
+                side,
+                go,
+                drive,
+                stop,
+                check,
+            };
+            Ok(Deed::Contour(contour, n))
         }
         Body::Rapid => Ok(Deed::Rapid),
-        Body::Halt => Ok(Deed::Halt),
-        Body::OptHalt => Ok(Deed::OptHalt),
+        Body::Halt => Ok(Deed::Do(Command::Stop)),
+        Body::OptHalt => Ok(Deed::Do(Command::OptStop)),
+        Body::SpindlOff => Ok(Deed::Do(Command::Spindle(Turn::Off, 0))),
+        Body::Coolnt(cool) => Ok(Deed::Do(Command::Coolant(*cool))),
         Body::EndWord => Ok(Deed::EndWord),
         Body::Fini => Ok(Deed::Fini),
         Body::Fedrat(e) => Ok(Deed::Fedrat(eval(e, env, frame)?)),
-        Body::Spindl(e, turn) => Ok(Deed::Spindl(eval(e, env, frame)?, *turn)),
-        Body::SpindlOff => Ok(Deed::SpindlOff),
-        Body::Coolnt(coolant) => Ok(Deed::Coolnt(*coolant)),
-        Body::Loadtl(e) => Ok(Deed::Loadtl(eval(e, env, frame)?)),
+        Body::Spindl(e, turn) => Ok(Deed::Do(Command::Spindle(*turn, eval(e, env, frame)?))),
+        Body::Loadtl(e) => Ok(Deed::Do(Command::Tool(eval(e, env, frame)?))),
         Body::CycleDrill(d, c) => {
             let (d, c) = both(env, frame, d, c)?;
             Ok(Deed::CycleDrill(d, c))

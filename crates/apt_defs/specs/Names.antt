@@ -123,12 +123,8 @@ point_is_far units (points.Centre c) = false
 
 abbrev pub line_is_far : Units → LineForm → Bool
 line_is_far units (lines.Xy x y u v) = is_far units x || (is_far units y || (is_far units u || is_far units v))
-line_is_far units (lines.Points p q) = false
-line_is_far units (lines.Parallel p l) = false
-line_is_far units (lines.Square p l) = false
 line_is_far units (lines.Beside l k v) = is_too_long units v
-line_is_far units (lines.Past p h c) = false
-line_is_far units (lines.PastTwo h c k d) = false
+line_is_far units _ = false
 
 abbrev pub circle_is_far : Units → CircleForm → Bool
 circle_is_far units (circles.Xyr x y r) = is_far units x || (is_far units y || is_too_long units r)

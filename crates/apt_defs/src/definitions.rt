@@ -54,10 +54,10 @@ pub fn figure_of(form: &Form, units: Units, table: &Table) -> Result<Figure, Cas
     ensures alike { (other : Units) (alike : Form) → AreAlike units form.now other alike → result ≡ definitions.figure_of other table.now alike }
 {
     table.figures_in_range();
-    by_kind(form, units, table)
+    figure_of_value(form, units, table)
 }
 
-fn by_kind(form: &Form, units: Units, table: &Table) -> Result<Figure, Case>
+fn figure_of_value(form: &Form, units: Units, table: &Table) -> Result<Figure, Case>
     requires { AllScalars (form_numbers form.now) }
     ensures value { result ≡ definitions.figure_of units table.now form.now }
     ensures range { IfOk result IsFigure }
@@ -125,7 +125,7 @@ pub fn define_as(name: Symbol, form: &Form, units: Units, table: &mut Table) -> 
     ensures refused { (case : Case) → IsErrOf result (DefError.Case case) ↔ (definitions.figure_of units table.old form.now ≡ Err case) }
     ensures err { OnErr result (table.new ≡ table.old) }
 {
-    match by_kind(form, units, table) {
+    match figure_of_value(form, units, table) {
         Ok(figure) => Ok(table.set(name, figure)?),
         Err(case) => Err(DefError::Case(case)),
     }
@@ -148,10 +148,10 @@ pub fn define(step: &Step, units: Units, table: &mut Table) -> Result<bool, DefE
     ensures alike { (other : Units) (same : Deed) (name : List ℕ) (form alike : Form) → IsDefinition step.now.deed name form → IsDefinition same name alike → AreAlike units form other alike → IfOk result (HasOrNone other table.old same table.new) }
 {
     table.figures_in_range();
-    define_if_asked(step, units, table)
+    define_value(step, units, table)
 }
 
-fn define_if_asked(step: &Step, units: Units, table: &mut Table) -> Result<bool, DefError>
+fn define_value(step: &Step, units: Units, table: &mut Table) -> Result<bool, DefError>
     requires { HasScalars step.now.deed }
     ensures ok { IfOk result (HasOrNone units table.old step.now.deed table.new) }
     ensures refused { (case : Case) → IsErrOf result (DefError.Case case) ↔ IsRefusedBy units table.old step.now.deed case }

@@ -35,10 +35,10 @@ pub fn point_lines(table: &Table, a: &Symbol, b: &Symbol) -> Result<Figure, Case
 {
     let a = line_named(table, a)?;
     let b = line_named(table, b)?;
-    a_point(in_case(line_line(&unmoved(a), &unmoved(b)))?)
+    a_point(in_case(line_line(&as_moved(a), &as_moved(b)))?)
 }
 
-fn unmoved(line: Line) -> Moved
+fn as_moved(line: Line) -> Moved
     requires { IsLine line }
     ensures line { result.line ≡ line }
     ensures off { result.off ≡ pos 0 }
@@ -55,7 +55,7 @@ pub fn point_pick(table: &Table, pick: Pick, a: &Symbol, b: &Symbol) -> Result<F
     let a = surface(table, a)?;
     let b = surface(table, b)?;
     let (p, q) = meetings(a, b)?;
-    a_point(picked(pick, p, q))
+    a_point(pick_point(pick, p, q))
 }
 
 /// The two points in which a circle meets a line or another circle.
@@ -79,7 +79,7 @@ fn on_line(line: Line, circle: Circ) -> Result<(Pt, Pt), Case>
     ensures value { result ≡ forms.meetings (Surface.Line line) (Surface.Circ circle) }
     ensures range { IfOk result (λ m. IsPoint m.0 × IsPoint m.1) }
 {
-    let line = unmoved(line);
+    let line = as_moved(line);
     let p = in_case(line_circle(&line, &circle, 1))?;
     let q = in_case(line_circle(&line, &circle, -1))?;
     Ok((p, q))
@@ -108,7 +108,7 @@ fn on_both(a: Circ, b: Circ) -> Result<(Pt, Pt), Case>
     Ok((p, q))
 }
 
-fn picked(pick: Pick, p: Pt, q: Pt) -> Pt
+fn pick_point(pick: Pick, p: Pt, q: Pt) -> Pt
     requires p { IsPoint p }
     requires q { IsPoint q }
     ensures value { result ≡ forms.picked pick p q }

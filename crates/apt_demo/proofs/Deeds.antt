@@ -7,6 +7,7 @@ use Rattle.apt_words.specs.declared.Stop.TheVariants as stops
 use Rattle.apt_words.specs.declared.deed.Deed.{Deed}
 use Rattle.apt_words.specs.declared.deed.Deed.TheVariants as deeds
 use Rattle.apt_words.specs.declared.deed.Step.{Step}
+use Rattle.apt_words.proofs.Contours.{contouring}
 use Rattle.apt_demo.specs.Demo.{centre_x, centre_y, radius, clear_x}
 
 -- inches, and hundredths of an inch, in millionths
@@ -23,8 +24,8 @@ cut_deeds vx vy =
     ∷ deeds.GotoXy vx vy (Some (pos 500000))
     ∷ deeds.Godlta (pos 0) (pos 0) (neg_ℤ (pos 500000))
     ∷ deeds.GoStart stops.To (codes "C") None
-    ∷ deeds.Contour None turns.Right (codes "C") stops.On (codes "L") (pos 1000000)
-    ∷ deeds.Contour None turns.Forward (codes "C") stops.On (codes "L") (pos 1000000)
+    ∷ deeds.Contour (contouring None turns.Right (codes "C") stops.On (codes "L")) (pos 1000000)
+    ∷ deeds.Contour (contouring None turns.Forward (codes "C") stops.On (codes "L")) (pos 1000000)
     ∷ deeds.Godlta (pos 0) (pos 0) (pos 500000)
     ∷ []
 

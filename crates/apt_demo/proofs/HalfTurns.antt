@@ -7,6 +7,7 @@ use Rattle.apt_words.specs.declared.Stop.TheVariants as stops
 use Rattle.apt_words.specs.declared.deed.Deed.TheVariants as deeds
 use Rattle.apt_words.specs.Rows.{first_of}
 use Rattle.apt_words.proofs.Rows.{none_first}
+use Rattle.apt_words.proofs.Contours.{contouring}
 use Rattle.apt_plane.specs.declared.figures.Dir.{Dir}
 use Rattle.apt_plane.specs.declared.figures.Surface.{Surface}
 use Rattle.apt_plane.specs.declared.figures.Surface.TheVariants as surfaces
@@ -80,7 +81,7 @@ half_arc_is x y a b r R size half =
 -- the step that asks for it
 pub half_step : (f : Dir) (x y a b : ℤ) (r R n : ℕ) (go : Go) → Size r R → Half R a b → turn f (perp (way a (pos 0))) go ≡ signs.Plus
     → is_in_range (point (x +ℤ b) y) ≡ true → length (divided (half_arc x y R a b)) ≡ n
-    → Passes (standing ready (position_at (x +ℤ a) y (pos 0)) f (figures_about x y r)) (deeds.Contour None go (codes "C") stops.On (codes "L") (pos 1000000)) n
+    → Passes (standing ready (position_at (x +ℤ a) y (pos 0)) f (figures_about x y r)) (deeds.Contour (contouring None go (codes "C") stops.On (codes "L")) (pos 1000000)) n
     (standing ready (position_at (x +ℤ b) y (pos 0)) (heading (pos 1) (perp (way b (pos 0)))) (figures_about x y r))
 unfolding motion_at
 half_step f x y a b r R n go size half turns inside count =

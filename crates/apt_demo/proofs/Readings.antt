@@ -33,6 +33,7 @@ use Rattle.apt_lines.specs.Decimals.{pointed, signed_pointed}
 use Rattle.apt_demo.specs.Demo.{centre_x, centre_y, radius, clear_x, pair}
 use Rattle.apt_demo.proofs.Deeds.{deeds_about, circle_deeds, deeds_from}
 use Rattle.apt_words.proofs.Alike.{heads, tails}
+use Rattle.apt_words.proofs.Contours.{contouring}
 
 -- ---- lines, without their line feeds
 
@@ -99,8 +100,8 @@ bodies_about x y r clear =
     ∷ bodies.GotoXy (tree 10000 clear) (tree 1000000 y) (Some (Num (pos 500000)))
     ∷ bodies.Godlta (Num (pos 0)) (Num (pos 0)) (Neg (Num (pos 500000)))
     ∷ bodies.GoStart stops.To (codes "C") None
-    ∷ bodies.Contour None turns.Right (codes "C") stops.On (codes "L") (Num (pos 1000000))
-    ∷ bodies.Contour None turns.Forward (codes "C") stops.On (codes "L") (Num (pos 1000000))
+    ∷ bodies.Contour (contouring None turns.Right (codes "C") stops.On (codes "L")) (Num (pos 1000000))
+    ∷ bodies.Contour (contouring None turns.Forward (codes "C") stops.On (codes "L")) (Num (pos 1000000))
     ∷ bodies.Godlta (Num (pos 0)) (Num (pos 0)) (Num (pos 500000))
     ∷ []
 

@@ -1,7 +1,6 @@
 pub mod Walks
 pub mod InFront
 pub mod Ranges
-pub mod Named
 pub mod Steps
 pub mod InAndOut
 mod Worked

@@ -1,6 +1,6 @@
 -- Jobs are in the range in which they are judged.
-use Rattle.std.proofs.Common.{◌≡◌, ◌≤◌, ◌+◌, ◌^◌, ◌==◌, ℕ, zero, suc, ℤ, pos, ◌-ℤ◌, ◌≤ℤ◌, unsigned_abs, arith, Bool, true, false, not, List, [], ◌∷◌, ◌++◌, length, map, Some, None, inl, inr, refl, sym, ap, ◌∙◌}
-use Rattle.std.specs.Prelude.{◌&&◌, ◌||◌, if◌then◌else◌}
+use Rattle.std.proofs.Common.{◌≡◌, ◌≤◌, ◌+◌, ◌-◌, ◌^◌, ◌==◌, ℕ, zero, suc, ℤ, pos, ◌-ℤ◌, ◌≤ℤ◌, unsigned_abs, arith, Bool, true, false, not, List, [], ◌∷◌, ◌++◌, length, map, Some, None, inl, inr, refl, sym, ap, ◌∙◌}
+use Rattle.std.specs.Prelude.{◌&&◌, ◌||◌, if◌then◌else◌, slice_index_or}
 use Rattle.std.proofs.lemmas.Bool.{true≢false}
 use Rattle.std.proofs.lemmas.Int.{ints}
 use Rattle.apt_num.specs.declared.Sign.{Sign}
@@ -155,6 +155,14 @@ job_in d vertices is some are = record {
   moves = more_than d.motion.start.xy vertices some;
   points = (is.start.xy, are);
 }
+
+nth_last : (p q d : Pt) (ps : List Pt) → slice_index_or (q ∷ ps) (length ps) d ≡ last_of p (q ∷ ps)
+nth_last p q d [] = refl
+nth_last p q d (r ∷ ps) = nth_last q r d ps
+
+pub last_at : (p d : Pt) (ps : List Pt) → 1 ≤ length ps → slice_index_or ps (length ps - 1) d ≡ last_of p ps
+last_at p d [] has = absurd (omega (arith, has))
+last_at p d (q ∷ ps) has = ap (λ i. slice_index_or (q ∷ ps) i d) (omega (arith)) ∙ nth_last p q d ps
 
 pub last_in : (p : Pt) (vertices : List Pt) → IsPoint p → ArePoints vertices → IsPoint (last_of p vertices)
 last_in p [] is are = is

@@ -1,12 +1,10 @@
 -- The walk of a judge over steps and records.
 use Rattle.std.proofs.Common.{◌≡◌, ◌∙◌, ◌+◌, ◌-◌, ◌≤◌, ℕ, suc, ℤ, arith, List, [], ◌∷◌, ◌++◌, length, map, Option, Some, None, refl, sym, ap, subst, inl, inr, append_assoc, append-nil}
-use Rattle.std.proofs.Common.{◌<◌, take, drop, length-append, length-drop, drop-drop, drop_at, take_at, true, false}
+use Rattle.std.proofs.Common.{◌<◌, take, drop, length-append, length-drop, drop-drop, drop_at, take_at}
 use Rattle.std.specs.Prelude.{IsSomeAnd}
 use Rattle.std.proofs.lemmas.List.{take_rest}
 use borrow.Rule.Slice.PartMut.{mid_of, put_mid, mid_len, same_len_mid, drop_put}
 use Rattle.apt_words.specs.Sources.{AreExecuted}
-use Rattle.apt_words.specs.declared.Case.{Case}
-use Rattle.apt_words.specs.declared.deed.Deed.{Deed}
 use Rattle.apt_words.specs.declared.deed.Step.{Step}
 use Rattle.apt_scalar.specs.StepScalars.{AreScalars}
 use Rattle.apt_plane.specs.declared.figures.Pt.{Pt}
@@ -14,26 +12,18 @@ use Rattle.apt_certify.specs.declared.leg.Job.{Job}
 use Rattle.apt_certify.specs.Jobs.{AreJobs, point_count}
 use Rattle.apt_records.specs.declared.record.Record.{Record}
 use Rattle.apt_records.specs.Ranges.{vertex_count, AreRecords}
-use Rattle.apt_defs.specs.Figures.{Table}
-use Rattle.apt_defs.specs.Definitions.{figure_of, HasOrNone, IsRefusedBy}
-use Rattle.apt_meaning.specs.declared.situation.Settings.{Settings}
 use Rattle.apt_meaning.specs.declared.situation.Situation.{Situation}
 use Rattle.apt_meaning.specs.declared.effect.Change.TheVariants as changes
 use Rattle.apt_meaning.specs.declared.effect.Effect.{Effect}
 use Rattle.apt_meaning.specs.declared.effect.Effect.TheVariants as effects
 use Rattle.apt_meaning.specs.Situations.{first_situation}
 use Rattle.apt_records.specs.Vertices.{at_height}
-use Rattle.apt_meaning.specs.Effects.{effect_of}
-use Rattle.apt_meaning.specs.Refusals.{refusal_of}
-use Rattle.apt_meaning.specs.Compiled.{ends_of, first_refused}
+use Rattle.apt_meaning.specs.Compiled.{first_refused}
 use Rattle.apt_meaning.specs.Paths.{Due, first_leg, next_leg}
 use Rattle.apt_meaning.specs.Records.{Begins, records_of, after, cut_record, legs_from}
 use Rattle.apt_meaning.specs.Expectations.{expected, Departs, FailsAt}
 use Rattle.apt_meaning.proofs.Walks.Follower.{KeepsUp, keeps_up_first, StepsOn, steps_on}
-use Rattle.apt_meaning.proofs.Walks.Agree.{Agrees}
-use Rattle.apt_meaning.proofs.Walks.Compiled.{passed}
 use Rattle.apt_job.specs.Jobs.{job_said, jobs_by, MakesJobs}
-use Rattle.apt_job.proofs.Named.{is_named, is_unnamed, refused_name}
 use Rattle.apt_job.proofs.Ranges.{jobs_in, points-append}
 
 -- ---- lengths
@@ -178,42 +168,6 @@ walk_on all written here rest jobs step steps e cuts later walk begins =
       range = jobs_in jobs e cuts walk.range on.motion on.within;
       points = omega (arith, points-append jobs (jobs_by e cuts), light step e cuts, load, walk.points);
     }
-
--- a step that defines a name has no records, and no case refuses it
-pub walk_named : (all : List Step) (written : List Record) (here : Situation) (rest : List Record) (jobs : List Job) (step : Step) (steps : List Step) (now : Situation)
-    → IsWalk all written here rest jobs (step ∷ steps) → HasOrNone here.settings.units here.table step.deed now.table true → now ≡ record here { table = now.table }
-    → IsWalk all written now rest jobs steps
-walk_named all written here rest jobs step steps now walk defined others =
-    let named = is_named here step.deed now defined others in
-    let e = effects.Defines named.0 named.1 in
-    let on = walk_on all written here rest jobs step steps e [] rest walk (record { asked = named.2; front = refl; may = refl }) in
-    subst (λ (s : Situation). IsWalk all written s rest jobs steps) (sym named.3)
-    (subst (λ (js : List Job). IsWalk all written (after here e []) rest js steps) (append-nil jobs) on)
-
--- one that defines none leaves the walk where it is
-pub walk_waits : (all : List Step) (written : List Record) (here : Situation) (rest : List Record) (jobs : List Job) (deed : Deed) (steps : List Step) (now : Situation)
-    → IsWalk all written here rest jobs steps → HasOrNone here.settings.units here.table deed now.table false → now ≡ record here { table = now.table }
-    → IsWalk all written now rest jobs steps
-walk_waits all written here rest jobs deed steps now walk none others =
-    subst (λ (s : Situation). IsWalk all written s rest jobs steps) (sym (is_unnamed here deed now none others)) walk
-
--- the situations agree on definitions
-refused_beside : (c here : Situation) (deed : Deed) (case : Case) → Agrees c here → IsRefusedBy here.settings.units here.table deed case → refusal_of c deed ≡ Some case
-refused_beside c here deed case agrees is =
-    let units = ap (λ (s : Settings). figure_of s.units here.table is.1) (sym agrees.settings) in
-    let table = ap (λ (t : Table). figure_of c.settings.units t is.1) (sym agrees.table) in
-    refused_name c deed case (is.0, is.1, is.2, table ∙ units ∙ is.3)
-
-no_case : (o : Option Case) (case : Case) → o ≡ None → o ≡ Some case → ⊥
-no_case o case none some = cc
-
-pub walk_unrefused : (all : List Step) (written : List Record) (here : Situation) (rest : List Record) (jobs : List Job) (step : Step) (steps : List Step) (case : Case)
-    → IsWalk all written here rest jobs (step ∷ steps) → IsRefusedBy here.settings.units here.table step.deed case → ⊥
-walk_unrefused all written here rest jobs step steps case walk is =
-    let beside = walk.keeps.beside in
-    let c = beside.c in
-    let does = passed step (refusal_of c step.deed) (effect_of c step.deed) (λ e. first_refused (after c e (ends_of e)) steps) beside.passes in
-    no_case (refusal_of c step.deed) case does.fine (refused_beside c here step.deed case beside.agrees is)
 
 -- ---- where it ends
 

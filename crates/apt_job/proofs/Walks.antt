@@ -9,7 +9,7 @@ use Rattle.apt_records.specs.declared.record.Record.{Record}
 use Rattle.apt_meaning.specs.declared.situation.Situation.{Situation}
 use Rattle.apt_meaning.specs.declared.effect.Effect.{Effect}
 use Rattle.apt_meaning.specs.declared.effect.Effect.TheVariants as effects
-use Rattle.apt_meaning.specs.Paths.{Saying, Contour, Due, first_leg, next_leg, contours_behind, said_behind, nothing_said, EveryContour, IsLegalCut, contours_of}
+use Rattle.apt_meaning.specs.Paths.{Told, Contour, Due, first_leg, next_leg, contours_behind, said_behind, nothing_said, EveryContour, IsLegalCut, contours_of}
 use Rattle.apt_meaning.specs.Records.{MayHave, FollowsAs, HasAny, Follows, IsAsSaid, records_of, after, legs_from, contours_by}
 use Rattle.apt_meaning.specs.Expectations.{expected, FailsAt}
 use Rattle.apt_meaning.specs.Situations.{first_situation}
@@ -143,7 +143,7 @@ jobs_joined : (cs more : List Contour) (jobs : List Job) → jobs ≡ map job_sa
 jobs_joined [] more jobs same = same
 jobs_joined (c ∷ cs) more jobs same = ap (λ (js : List Job). job_said c ∷ js) (jobs_joined cs more jobs same)
 
-said_of : (s : Saying) (here : Situation) (steps : List Step) (written : List Record) (jobs : List Job) → IsAsSaid s here → MakesJobs here steps written jobs
+said_of : (s : Told) (here : Situation) (steps : List Step) (written : List Record) (jobs : List Job) → IsAsSaid s here → MakesJobs here steps written jobs
     → jobs ≡ map job_said (contours_behind s written)
 said_of s here [] written jobs t makes = rw (makes.0, makes.1) refl
 said_of s here (step ∷ steps) written jobs t makes =

@@ -1,12 +1,14 @@
 -- One contour step along the lower edge of a plate, and records that answer it, or don't.
 use Rattle.std.specs.Prelude.{◌≡◌, refl, ℕ, ℤ, pos, neg_ℤ, negsuc, codes, List, [], ◌∷◌, None}
 use Rattle.std.proofs.Common.{inl, inr}
+use Rattle.apt_words.specs.declared.Command.TheVariants as commands
 use Rattle.apt_words.specs.declared.Go.TheVariants as turns
 use Rattle.apt_words.specs.declared.Side.{Side}
 use Rattle.apt_words.specs.declared.Side.TheVariants as sides
 use Rattle.apt_words.specs.declared.Stop.TheVariants as stops
 use Rattle.apt_words.specs.declared.deed.Deed.TheVariants as deeds
 use Rattle.apt_words.specs.declared.deed.Step.{Step}
+use Rattle.apt_words.proofs.Contours.{contouring}
 use Rattle.apt_plane.specs.declared.figures.Surface.TheVariants as surfaces
 use Rattle.apt_certify.specs.declared.leg.Job.{Job}
 use Rattle.apt_records.specs.declared.record.Note.TheVariants as notes
@@ -23,7 +25,7 @@ use Rattle.apt_meaning.proofs.Worked.Plates.{point, lower, right, at_corner, alo
 use Rattle.apt_job.specs.Jobs.{MakesJobs}
 
 abbrev contour : Step
-contour = record { line = 7; step = 3; deed = deeds.Contour None turns.Right (codes "L1") stops.Past (codes "L2") (pos 1000000) }
+contour = record { line = 7; step = 3; deed = deeds.Contour (contouring None turns.Right (codes "L1") stops.Past (codes "L2")) (pos 1000000) }
 
 -- the end of the edge, at a height
 abbrev end_at : ℤ → Position
@@ -60,8 +62,8 @@ another_side = inl (1, (([], (refl, refl)), (λ met. absurd (left met.1.0))), re
     left : records.Drive (surfaces.Line lower) sides.Left (pos 1) ≡ records.Drive (surfaces.Line lower) sides.Right (pos 1) → ⊥
     left e = cc
 
-one_too_many : FailsAt at_corner 1 (contour ∷ []) (written 7 sides.Right (pos 50000) (records.Note notes.Stop ∷ [])) 5
-one_too_many = inr (effects.Cuts along_lower the_legs.One, (point (pos 525000) (neg_ℤ (pos 25000)) ∷ []) ∷ [], records.Note notes.Stop ∷ [], begins (records.Note notes.Stop ∷ []), refl)
+one_too_many : FailsAt at_corner 1 (contour ∷ []) (written 7 sides.Right (pos 50000) (records.Note (notes.Do commands.Stop) ∷ [])) 5
+one_too_many = inr (effects.Cuts along_lower the_legs.One, (point (pos 525000) (neg_ℤ (pos 25000)) ∷ []) ∷ [], records.Note (notes.Do commands.Stop) ∷ [], begins (records.Note (notes.Do commands.Stop) ∷ []), refl)
 
 none_at_all : FailsAt at_corner 1 (contour ∷ []) [] 1
 unfolding motion_at

@@ -63,15 +63,11 @@ bounded c = record {
   axis = axis_of c;
 }
 
--- the side of the stop on which a motion runs, and the axis on which it ends where it touches
-abbrev pub AreBounds : Motion → Sides → Type 0
-AreBounds m sides = (sides.stop ≡ stop_side m) × (sides.axis ≡ axis_of (course_of m))
-
--- whether the track of a motion is there; where it is, whether its stop is, and where both are, what bounds the motion
+-- whether the track of a motion is there; where it is, whether its stop is, and where both are, the side of the stop on which it runs, and the axis on which it ends where it touches
 pub record AreSides (m : Motion) (sides : Sides) : Type 0 where
   pub track : sides.has_track ≡ has_track m
   pub stop : has_track m ≡ true → sides.has_stop ≡ has_stop m
-  pub bounds : is_defined m ≡ true → AreBounds m sides
+  pub bounds : is_defined m ≡ true → (sides.stop ≡ stop_side m) × (sides.axis ≡ axis_of (course_of m))
 
 -- those of an effect that is a contour
 abbrev pub HasSides : Sides → Effect → Type 0

@@ -242,7 +242,7 @@ fn is_silent(effect: &Option<Effect>) -> bool
 }
 
 /// The records of a step, which begin with its statement; else how many records in front are as they are due.
-pub(crate) fn taken<'a>(
+pub(crate) fn front_of<'a>(
     step: &Step,
     effect: &Option<Effect>,
     sides: Sides,

@@ -19,7 +19,7 @@ use apt_num::Sign;
 use apt_offset::signs::{is_zero, opposite};
 use apt_offset::{band_at, is_on_check, lacks_room};
 use apt_plane::{Axis, Pt, Surface};
-use apt_records::{Position, VertexSlice};
+use apt_records::VertexSlice;
 use apt_stop::{Course, axis, kept_side};
 use std::alloc::{AllocError, Global};
 
@@ -134,26 +134,25 @@ fn out_sign_at(surface: &Surface, side: Sign) -> i8
 }
 
 /// The start and the points of the vertices behind it.
-fn points(alloc: Global, start: Position, behind: &VertexSlice<'_>) -> Result<Points, AllocError>
-    ensures { IfOk result (λ ps. ps ≡ start.xy ∷ points_at behind.now) }
+fn points(alloc: Global, start: Pt, behind: &VertexSlice<'_>) -> Result<Points, AllocError>
+    ensures { IfOk result (λ ps. ps ≡ start ∷ points_at behind.now) }
 {
-    let mut vertices = Vec::with_capacity(alloc, behind.len().saturating_add(1))?;
-    vertices.push_reserved(start.xy);
-    behind.append_points(&mut vertices)?;
-    Ok(Points { vertices })
+    match behind.split_first() {
+        Some((end, rest)) if rest.len() == 0 => Ok(Points::ends(start, end.xy)),
+        _ => Ok(Points::of(listed(alloc, start, behind)?)),
+    }
+}
+
+fn listed(alloc: Global, start: Pt, behind: &VertexSlice<'_>) -> Result<Vec<Pt>, AllocError>
+    ensures { IfOk result (λ ps. ps.items ≡ start ∷ points_at behind.now) }
+{
+    let mut points = Vec::with_capacity(alloc, behind.len().saturating_add(1))?;
+    points.push_reserved(start);
+    behind.append_points(&mut points)?;
+    Ok(points)
 }
 
 /// The last of a start and points behind it.
-fn last_of(start: Pt, points: &[Pt]) -> Pt
-    ensures { result ≡ last_of start points.now }
-{
-    let mut last = start;
-    for p in points {
-        last = *p;
-    }
-    last
-}
-
 #[tactic(auto, using(crate::proofs::Ranges::last_in))]
 fn end_of(start: Pt, points: &[Pt]) -> Pt
     requires start { IsPoint start }
@@ -162,6 +161,15 @@ fn end_of(start: Pt, points: &[Pt]) -> Pt
     ensures range { IsPoint result }
 {
     last_of(start, points)
+}
+
+fn last_of(start: Pt, points: &[Pt]) -> Pt
+    ensures { result ≡ last_of start points.now }
+{
+    match points {
+        [.., last] => *last,
+        [] => start,
+    }
 }
 
 /// Makes the job of a leg. Where the leg ends.
@@ -180,8 +188,8 @@ pub(crate) fn take_leg(
     ensures last { IfOk result (λ p. p ≡ last_of m.now.start.xy (points_at behind.now)) }
     ensures range { IfOk result IsPoint }
 {
-    let points = points(alloc, m.start, behind)?;
-    let last = end_of(m.start.xy, &points.vertices[1..]);
+    let points = points(alloc, m.start.xy, behind)?;
+    let last = end_of(m.start.xy, &points.all()[1..]);
     jobs.push(Job {
         leg: leg_on(m, side, touching),
         out_sign: out_sign_at(&m.drive, m.drive_side()),

@@ -1,16 +1,13 @@
 //! The walk over steps and records.
 
-ghost use Rattle.std.specs.Prelude.{true, ◌≡◌, ◌≢◌, ◌+◌, ◌<◌, ◌≤◌, ◌^◌, ◌++◌, ℕ, List, length, Ok, IfOk, IfErr, OnOk};
+ghost use Rattle.std.specs.Prelude.{true, ◌≡◌, ◌+◌, ◌<◌, ◌≤◌, ◌^◌, ◌++◌, ℕ, length, IfOk, IfErr, OnOk};
 ghost use Rattle.apt_words.specs.Sources.{AreExecuted};
-ghost use Rattle.apt_words.specs.declared.Case.{Case};
-ghost use Rattle.apt_scalar.specs.StepScalars.{AreScalars, HasScalars};
+ghost use Rattle.apt_scalar.specs.StepScalars.{AreScalars};
 ghost use Rattle.apt_certify.specs.Jobs.{AreJobs, point_count};
 ghost use Rattle.apt_certify.specs.Verdicts.{IsVerdict};
 ghost use Rattle.apt_certify.specs.declared.verdict.Verdict.{Verdict};
 ghost use Rattle.apt_records.specs.Ranges.{AreRecords, vertex_count};
 ghost use Rattle.apt_records.specs.declared.record.Record.{Record};
-ghost use Rattle.apt_defs.specs.Definitions.{HasOrNone, IsRefusedBy};
-ghost use Rattle.apt_defs.specs.declared.figure.Figure.{Figure};
 ghost use Rattle.apt_meaning.specs.Compiled.{first_refused};
 ghost use Rattle.apt_meaning.specs.Ranges.{IsSituation, IsMotion, IsEffect, HasMotion};
 ghost use Rattle.apt_meaning.specs.Motions.{is_defined};
@@ -27,13 +24,12 @@ ghost use Rattle.apt_job.specs.InAndOut.{TellsInAndOut};
 ghost use Rattle.apt_job.specs.Jobs.{AreSides, HasSides, jobs_by, jobs_said, MakesJobs};
 
 use crate::JobError;
-use crate::fronts::{Cuts, taken};
+use crate::fronts::{Cuts, front_of};
 use crate::legs::{Sides, effect_sides, take_leg};
 use apt_certify::Job;
-use apt_defs::{DefError, define};
 use apt_meaning::{Effect, Motion, Situation, effect_of};
 use apt_offset::signs::opposite;
-use apt_records::{Note, Record};
+use apt_records::{Record, Vertices};
 use apt_stop::Legs;
 use apt_words::Step;
 use std::alloc::{AllocError, Global};
@@ -50,15 +46,21 @@ fn entry(at: usize, fitting: u64) -> JobError
 
 /// Lets go of the vertices of a contour, the last of some records, where there are more than the one for which a record has
 /// room itself; and of those before it.
-fn let_go(records: &mut [Record], vertices: (usize, usize))
+fn let_go(alloc: Global, records: &mut [Record], vertices: (usize, usize))
     ensures { length records.new ≡ length records.old }
 {
     let n = records.len();
     if vertices.1 > 1 && n >= 1 {
-        records[n - 1] = Record::Note(Note::Rapid);
+        empty(alloc, &mut records[n - 1]);
     }
     if vertices.0 > 1 && n >= 2 {
-        records[n - 2] = Record::Note(Note::Rapid);
+        empty(alloc, &mut records[n - 2]);
+    }
+}
+
+fn empty(alloc: Global, record: &mut Record) {
+    if let Record::Contour(vertices) = record {
+        *vertices = Vertices::level(0, Vec::new(alloc));
     }
 }
 
@@ -111,22 +113,7 @@ fn cut(
     Ok(())
 }
 
-/// Gives the name that a step defines its figure. False where the step defines no name: what holds stays as it was.
-fn gives_name(step: &Step, here: &mut Situation) -> Result<bool, JobError>
-    requires scalars { HasScalars step.now.deed }
-    requires passes { (case : Case) → IsRefusedBy here.old.settings.units here.old.table step.now.deed case → ⊥ }
-    ensures table { IfOk result (HasOrNone here.old.settings.units here.old.table step.now.deed here.new.table) }
-    ensures others { here.new ≡ record here.old { table = here.new.table } }
-    ensures err { IfErr result (λ e. e ≡ JobError.NoMemory) }
-{
-    match define(step, here.settings.units, &mut here.table) {
-        Ok(gives) => Ok(gives),
-        Err(DefError::Case(_)) => unreachable!(),
-        Err(DefError::NoMemory) => Err(JobError::NoMemory),
-    }
-}
-
-/// Makes the job of an effect that is a contour; then holds what holds behind it. No effect here defines a name.
+/// Makes the jobs of an effect that is a contour; then holds what holds behind it.
 fn take(
     alloc: Global,
     jobs: &mut Vec<Job>,
@@ -137,7 +124,6 @@ fn take(
 ) -> Result<(), AllocError>
     requires situation { IsSituation here.old }
     requires effect { IsEffect effect.now }
-    requires defines_nothing { (n : List ℕ) (f : Figure) → effect.now ≢ effects.Defines n f }
     requires has_motion { HasMotion effect.now }
     requires sides { HasSides sides effect.now }
     requires vertices { HasIn effect.now (cuts_at cuts.now) }
@@ -146,7 +132,7 @@ fn take(
     ensures jobs { OnOk result (jobs.new.items ≡ jobs.old.items ++ jobs_by effect.now (cuts_at cuts.now)) }
 {
     match effect {
-        Effect::Defines(..) => unreachable!(),
+        Effect::Defines(name, figure) => here.table.set(name.copied(), *figure)?,
         Effect::Sets(change) => here.settings.change(change),
         Effect::Moves(reach, to) => here.go_to(*reach, *to),
         Effect::Cuts(motion, legs) => cut(alloc, jobs, here, motion, *legs, sides, cuts)?,
@@ -176,10 +162,10 @@ pub fn jobs(alloc: Global, steps: &[Step], records: Vec<Record>) -> Result<Vec<J
     ensures entry { IfErr result (IsEntry steps.now records.items) }
     ensures entry_at { (seq : ℕ) → FailsAt first_situation 1 steps.now records.items seq → IsEntryAt seq result }
 {
-    jobs_of(alloc, steps, records)
+    jobs_value(alloc, steps, records)
 }
 
-fn jobs_of(alloc: Global, steps: &[Step], mut records: Vec<Record>) -> Result<Vec<Job>, JobError>
+fn jobs_value(alloc: Global, steps: &[Step], mut records: Vec<Record>) -> Result<Vec<Job>, JobError>
     requires scalars { AreScalars steps.now }
     requires sources { AreExecuted steps.now }
     requires passes { first_refused first_situation steps.now ≡ None }
@@ -194,20 +180,18 @@ fn jobs_of(alloc: Global, steps: &[Step], mut records: Vec<Record>) -> Result<Ve
     let mut at = 0;
     let mut jobs = Vec::new(alloc);
     'steps: for st in steps {
-        if gives_name(st, &mut here)? {
-            continue;
-        }
         let found = effect_of(&here, &st.deed)?;
         let sides = effect_sides(&found);
-        let front = match taken(st, &found, sides, &records[at..]) {
+        let front = match front_of(st, &found, sides, &records[at..]) {
             Ok(front) => front,
             Err(fitting) => return Err(entry(at, fitting)),
         };
+        // Records answer only a step that asks for something.
         let Some(found) = &found else { unreachable!() };
         take(alloc, &mut jobs, &mut here, found, sides, &front.cuts)?;
         let behind = records.len() - front.rest.len();
         let vertices = sizes(&front.cuts);
-        let_go(&mut records[at..behind], vertices);
+        let_go(alloc, &mut records[at..behind], vertices);
         at = behind;
     }
     if at == records.len() {

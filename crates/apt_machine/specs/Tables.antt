@@ -67,12 +67,9 @@ table_of text = machine_of_lines (lines_of text)
 
 -- the causes of a line behind the first
 abbrev pub IsOfLine : MachineCause → Type 0
-IsOfLine causes.Byte = Unit {0}
 IsOfLine causes.Header = ⊥
-IsOfLine causes.Key = Unit {0}
-IsOfLine causes.Twice = Unit {0}
-IsOfLine causes.Value = Unit {0}
 IsOfLine causes.Missing = ⊥
+IsOfLine _ = Unit {0}
 
 -- the lines of a text of so many at which a cause can stand
 abbrev pub Stands : ℕ → ℕ → MachineCause → Type 0

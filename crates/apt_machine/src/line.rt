@@ -33,7 +33,7 @@ fn key_of(version: Version, line: &[u8], name: &[u8]) -> Option<Key>
 }
 
 /// What is said with one key more, which must not stand already, and its value.
-fn keyed(draft: Draft, key: Option<Key>, value: Option<&[u8]>) -> Result<Draft, MachineCause>
+fn with_key(draft: Draft, key: Option<Key>, value: Option<&[u8]>) -> Result<Draft, MachineCause>
     ensures value { result ≡ tables.keyed draft key (option_map (λ v. v.now) value.entry) }
     ensures within { IsDraft draft → IfOk result IsDraft }
     ensures cause { IfErr result tables.IsOfLine }
@@ -67,5 +67,5 @@ pub(crate) fn behind_line(
         return Err(MachineCause::Byte);
     }
     let (name, value) = first_word(line);
-    keyed(draft, key_of(version, line, name), value)
+    with_key(draft, key_of(version, line, name), value)
 }

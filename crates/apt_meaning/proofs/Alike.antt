@@ -16,7 +16,9 @@ use Rattle.apt_words.specs.declared.ask.Route.TheVariants as routes
 use Rattle.apt_words.specs.declared.ask.Saying.{Saying}
 use Rattle.apt_words.specs.declared.ask.Saying.TheVariants as sayings
 use Rattle.apt_words.specs.declared.deed.Deed.{Deed}
+use Rattle.apt_words.specs.declared.contour.Contouring.{Contouring}
 use Rattle.apt_scalar.specs.Scalars.{whole}
+use Rattle.apt_plane.specs.declared.figures.Surface.{Surface}
 use Rattle.apt_records.specs.declared.record.Note.{Note}
 use Rattle.apt_records.specs.declared.record.Note.TheVariants as notes
 use Rattle.apt_records.specs.declared.record.Position.{Position}
@@ -25,8 +27,8 @@ use Rattle.apt_defs.specs.Alike.{in_grid}
 use Rattle.apt_defs.proofs.Gridded.{alike}
 use Rattle.apt_meaning.specs.declared.effect.Effect.{Effect}
 use Rattle.apt_meaning.specs.declared.situation.Situation.{Situation}
-use Rattle.apt_meaning.specs.Situations.{position_at}
-use Rattle.apt_meaning.specs.Motions.{motion_at}
+use Rattle.apt_meaning.specs.Situations.{position_at, with_side}
+use Rattle.apt_meaning.specs.Motions.{surface_in, turn_at, if_turned, motion_at}
 use Rattle.apt_meaning.specs.StartUps.{start_up_at, start_position_at}
 use Rattle.apt_meaning.specs.Effects.{note_of, says, moves, cuts_by, place_in, place_at, goes, names, defined, effect_by, effect_of}
 use Rattle.apt_meaning.specs.Alike.{saying_in_grid, place_in_grid, route_in_grid, AskAlike, with_units}
@@ -93,10 +95,16 @@ route_elsewhere here units (routes.Goto place) = ap (moves reaches.Goto) (place_
 route_elsewhere here units (routes.By x y z) = refl
 route_elsewhere here units (routes.Start how name other) = rw (start_elsewhere here units how name other) refl
 
-motion_elsewhere : (here : Situation) (units : Units) (side : Option Side) (go : Go) (drive : List ℕ) (how : Stop) (check : List ℕ) → motion_at (with_units here units) side go drive how check ≡ motion_at here side go drive how check
+turned_elsewhere : (here : Situation) (units : Units) (side : Option Side) (go : Go) (how : Stop) (p : Option Position) (d c : Option Surface)
+    → (p >>= λ start. d >>= λ drive. c >>= λ check. if_turned (with_side (with_units here units).settings side) start drive (turn_at (with_units here units) start drive go) how check)
+    ≡ (p >>= λ start. d >>= λ drive. c >>= λ check. if_turned (with_side here.settings side) start drive (turn_at here start drive go) how check)
+turned_elsewhere here units None go how p d c = refl
+turned_elsewhere here units (Some side) go how p d c = refl
+
+motion_elsewhere : (here : Situation) (units : Units) (contour : Contouring) → motion_at (with_units here units) contour ≡ motion_at here contour
 unfolding motion_at
-motion_elsewhere here units None go drive how check = refl
-motion_elsewhere here units (Some side) go drive how check = refl
+motion_elsewhere here units contour =
+    turned_elsewhere here units contour.side contour.go contour.stop here.position (surface_in here.table contour.drive) (surface_in here.table contour.check)
 
 -- ---- what a step asks for
 
@@ -121,14 +129,10 @@ asks_alike here units (Defines name form) (Defines named other) same =
 asks_alike here units (Goes route) (Goes other) same =
     let one : route_in_grid here.settings.units route ≡ route_in_grid units other = cc in
     routes_alike here units route other one
-asks_alike here units (Cuts side go drive how check n) (Cuts side' go' drive' how' check' n') same =
-    let s : side ≡ side' = cc in
-    let g : go ≡ go' = cc in
-    let d : drive ≡ drive' = cc in
-    let h : how ≡ how' = cc in
-    let c : check ≡ check' = cc in
-    let k : n ≡ n' = cc in
-    ap (cuts_by (whole n)) (sym (motion_elsewhere here units side go drive how check)) ∙ rw (s, g, d, h, c, k) refl
+asks_alike here units (Cuts contour n) (Cuts contour' n') same =
+    let one : contour ≡ contour' = cc in
+    let count : n ≡ n' = cc in
+    ap (cuts_by (whole n)) (sym (motion_elsewhere here units contour)) ∙ rw (one, count) refl
 asks_alike here units Nothing Nothing same = refl
 asks_alike here units ask other same = absurd cc
 

@@ -3,11 +3,12 @@ use Rattle.std.proofs.Common.{◌≡◌, ℕ, not, Bool, true, false, List, [], 
 use Rattle.std.proofs.lemmas.Bool.{true≢false}
 use Rattle.std.proofs.lemmas.Option.{same_Some}
 use Rattle.apt_num.specs.declared.Sign.{Sign}
-use Rattle.apt_words.specs.declared.Go.{Go}
+use Rattle.apt_words.specs.declared.Command.TheVariants as commands
 use Rattle.apt_words.specs.declared.Side.{Side}
 use Rattle.apt_words.specs.declared.Stop.{Stop}
 use Rattle.apt_words.specs.declared.Case.{Case}
 use Rattle.apt_words.specs.declared.Case.TheVariants as cases
+use Rattle.apt_words.specs.declared.Turn.TheVariants as turns
 use Rattle.apt_words.specs.declared.Units.{Units}
 use Rattle.apt_words.specs.declared.ask.Form.{Form}
 use Rattle.apt_words.specs.declared.ask.Place.{Place}
@@ -67,6 +68,7 @@ use Rattle.apt_meaning.specs.Ranges.{IsPositionOrNone, AreSettings, IsChange, Is
 use Rattle.apt_scalar.specs.StepScalars.{AllScalars, HasScalars}
 use Rattle.apt_meaning.specs.Vertices.{HasIn}
 use Rattle.apt_words.proofs.Rows.{first_none, none_first}
+use Rattle.apt_words.specs.declared.contour.Contouring.{Contouring}
 use Rattle.apt_meaning.proofs.Contours.Legal.{motion_defined}
 use Rattle.apt_meaning.proofs.Contours.Legs.{first_free, legs_are}
 use Rattle.apt_meaning.proofs.EffectRanges.{reach_in, up_to_in, feed_note, whole_note, on_side_or_as_it_was, motion_is}
@@ -178,7 +180,7 @@ starts from u is none =
     started_there (is_none (first_of (start_up_cases u))) (at_height from.z (start_point u)) (ap is_none (none_first (start_up_cases u) none))
     (record { xy = start_point-is u none; z = is.z })
 
-abbrev goal_at : Stop → Surface → Goal
+abbrev pub goal_at : Stop → Surface → Goal
 goal_at how s = record { how = how; surface = s }
 
 goal_there : (o : Option Figure) (how : Stop) → is_none o ≡ false → is_other_kind o ≡ false
@@ -188,7 +190,7 @@ goal_there (Some (figures.Point xy z)) how there kind = absurd (true≢false kin
 goal_there (Some (figures.Shape s)) how there kind = refl
 goal_there (Some figures.Scalar) how there kind = absurd (true≢false kind)
 
-abbrev start_up_on : Situation → Option Position → Option Goal → Option (Option Goal) → Option StartUp
+abbrev pub start_up_on : Situation → Option Position → Option Goal → Option (Option Goal) → Option StartUp
 start_up_on here p first second =
     p >>= λ start. first >>= λ a. second >>= λ b. Some (record { start = start.xy; first = a; second = b; radius = here.settings.radius })
 
@@ -226,28 +228,28 @@ turned_asks n s start drive turned how check is from d c none =
     let m = motion s start drive turned how check in
     unless_asks n (is_zero turned) (Some m) turns.0 (cuts_on m n (motion_is s start drive turned how check is from d c turns.0) turns.1)
 
-surfaces_ask : (here : Situation) (side : Option Side) (go : Go) (how : Stop) (n : Legs) (p : Option Position) (d c : Option Surface)
+surfaces_ask : (here : Situation) (contour : Contouring) (n : Legs) (p : Option Position) (d c : Option Surface)
     → AreSettings here.settings → IsPositionOrNone p → IfSome d IsSurface → IfSome c IsSurface
-    → is_none p ≡ false → is_none d ≡ false → is_none c ≡ false → NoneHolds (surface_cases here side go how n p d c)
-    → Asks (cuts n (p >>= λ start. d >>= λ drive. c >>= λ check. if_turned (with_side here.settings side) start drive (turn_at here start drive go) how check))
-surfaces_ask here side go how n None d c is is_p is_d is_c e f g none = absurd (true≢false e)
-surfaces_ask here side go how n (Some start) None c is is_p is_d is_c e f g none = absurd (true≢false f)
-surfaces_ask here side go how n (Some start) (Some drive) None is is_p is_d is_c e f g none = absurd (true≢false g)
-surfaces_ask here side go how n (Some start) (Some drive) (Some check) is is_p is_d is_c e f g none =
-    turned_asks n (with_side here.settings side) start drive (turn_at here start drive go) how check (on_side_or_as_it_was here.settings side is) is_p is_d is_c none
+    → is_none p ≡ false → is_none d ≡ false → is_none c ≡ false → NoneHolds (surface_cases here contour n p d c)
+    → Asks (cuts n (p >>= λ start. d >>= λ drive. c >>= λ check. if_turned (with_side here.settings contour.side) start drive (turn_at here start drive contour.go) contour.stop check))
+surfaces_ask here contour n None d c is is_p is_d is_c e f g none = absurd (true≢false e)
+surfaces_ask here contour n (Some start) None c is is_p is_d is_c e f g none = absurd (true≢false f)
+surfaces_ask here contour n (Some start) (Some drive) None is is_p is_d is_c e f g none = absurd (true≢false g)
+surfaces_ask here contour n (Some start) (Some drive) (Some check) is is_p is_d is_c e f g none =
+    turned_asks n (with_side here.settings contour.side) start drive (turn_at here start drive contour.go) contour.stop check (on_side_or_as_it_was here.settings contour.side is) is_p is_d is_c none
 
-contour_asks : (here : Situation) (side : Option Side) (go : Go) (drive : List ℕ) (how : Stop) (check : List ℕ) (n : ℤ) → IsSituation here
-    → NoneHolds (contour_cases here side go drive how check n) → Asks (legs_by (whole n) >>= λ legs. cuts legs (motion_at here side go drive how check))
+contour_asks : (here : Situation) (contour : Contouring) (n : ℤ) → IsSituation here
+    → NoneHolds (contour_cases here contour n) → Asks (legs_by (whole n) >>= λ legs. cuts legs (motion_at here contour))
 unfolding motion_at
-contour_asks here side go drive how check n is none =
+contour_asks here contour n is none =
     let d = none.1 in
     let c = d.1.1 in
-    let on = surface_in here.table drive in
-    let at = surface_in here.table check in
-    unless_counted (legs_by (whole n)) (λ legs. cuts legs (motion_at here side go drive how check)) (λ legs. surface_cases here side go how legs here.position on at) Asks
-    (λ legs free. surfaces_ask here side go how legs here.position on at is.settings is.position
-    (named_surface here.table drive is.table) (named_surface here.table check is.table)
-    none.0 (surface_there (figure_named here.table drive) d.0 d.1.0) (surface_there (figure_named here.table check) c.0 c.1.0) free) c.1.1
+    let on = surface_in here.table contour.drive in
+    let at = surface_in here.table contour.check in
+    unless_counted (legs_by (whole n)) (λ legs. cuts legs (motion_at here contour)) (λ legs. surface_cases here contour legs here.position on at) Asks
+    (λ legs free. surfaces_ask here contour legs here.position on at is.settings is.position
+    (named_surface here.table contour.drive is.table) (named_surface here.table contour.check is.table)
+    none.0 (surface_there (figure_named here.table contour.drive) d.0 d.1.0) (surface_there (figure_named here.table contour.check) c.0 c.1.0) free) c.1.1
 
 -- ---- places
 
@@ -255,7 +257,7 @@ place_asked : (reach : Reach) (here : Situation) (place : Place) (more : List Ro
 place_asked reach here (places.Xyz x y z) more is none = moves_to reach (position_by here.settings.units x y z) (position_is (position_by here.settings.units x y z) more none)
 place_asked reach here (places.Named p) more is none = place_asks reach (figure_named here.table p) (looked_up here.table p is.table) none.0 none.1.0
 
-route_asks : (here : Situation) (route : Route) → IsSituation here → NoneHolds (route_cases here route) → Asks (goes here route)
+pub route_asks : (here : Situation) (route : Route) → IsSituation here → NoneHolds (route_cases here route) → Asks (goes here route)
 route_asks here (routes.From place) is none = place_asked reaches.From here place [] is none.1
 route_asks here (routes.Goto place) is none = place_asked reaches.Goto here place ((lacks_feed here.settings, cases.NoFeed) ∷ []) is none
 route_asks here (routes.By x y z) is none =
@@ -264,16 +266,16 @@ route_asks here (routes.Start how name other) is none = go_asks here how name ot
 
 -- ---- notes
 
-saying_in : (units : Units) (saying : Saying) → AllScalars (saying_numbers saying) → NoneHolds (note_cases (note_of units saying)) → IsNote (note_of units saying)
+pub saying_in : (units : Units) (saying : Saying) → AllScalars (saying_numbers saying) → NoneHolds (note_cases (note_of units saying)) → IsNote (note_of units saying)
 saying_in units (sayings.Units others) numbers none = tt
 saying_in units (sayings.Diameter v) numbers none = up_to_in (pos 1000000) (grid_units units v) none.0
 saying_in units (sayings.Inward v) numbers none = up_to_in (pos 10000) (grid_units units v) none.0
 saying_in units (sayings.Outward v) numbers none = up_to_in (pos 10000) (grid_units units v) none.0
 saying_in units (sayings.Feed v) numbers none = feed_note v numbers.0 none.0
-saying_in units (sayings.Clockwise n) numbers none = whole_note n numbers.0 none.0
-saying_in units (sayings.Anticlockwise n) numbers none = whole_note n numbers.0 none.0
-saying_in units sayings.SpindleOff numbers none = refl
-saying_in units (sayings.Tool n) numbers none = whole_note n numbers.0 none.0
+saying_in units (sayings.Do (commands.Spindle turns.Cw n)) numbers none = whole_note n numbers.0 none.0
+saying_in units (sayings.Do (commands.Spindle turns.Ccw n)) numbers none = whole_note n numbers.0 none.0
+saying_in units (sayings.Do (commands.Spindle turns.Off n)) numbers none = refl
+saying_in units (sayings.Do (commands.Tool n)) numbers none = whole_note n numbers.0 none.0
 saying_in units _ numbers none = tt
 
 -- ---- a line for each ask
@@ -284,7 +286,7 @@ asks_by here (Says saying) is numbers worded none = says (note_of here.settings.
 asks_by here (Sets side) is numbers worded none = sets (changes.Side side) tt
 asks_by here (Defines name form) is numbers worded none = defined_asks here name form is none
 asks_by here (Goes route) is numbers worded none = route_asks here route is none
-asks_by here (Cuts side go drive how check n) is numbers worded none = contour_asks here side go drive how check n is none
+asks_by here (Cuts contour n) is numbers worded none = contour_asks here contour n is none
 asks_by here Nothing is numbers worded none = sets changes.Nothing tt
 
 pub asks : (here : Situation) (deed : Deed) → IsSituation here → HasScalars deed → DeedHasText deed → NoneHolds (cases_of here deed) → Asks (effect_of here deed)

@@ -2,7 +2,6 @@
 use Rattle.std.proofs.Common.{◌≡◌, ℕ, not, false, List, [], ◌∷◌, Result, Ok, Err, Option, Some, None, IfSome}
 use Rattle.apt_words.specs.declared.Case.{Case}
 use Rattle.apt_words.specs.declared.Case.TheVariants as cases
-use Rattle.apt_words.specs.declared.Go.{Go}
 use Rattle.apt_words.specs.declared.Side.{Side}
 use Rattle.apt_words.specs.declared.Stop.{Stop}
 use Rattle.apt_words.specs.declared.ask.Form.{Form}
@@ -14,6 +13,7 @@ use Rattle.apt_words.specs.declared.deed.Deed.{Deed}
 use Rattle.apt_words.specs.Asks.{Ask, Titles, Says, Sets, Defines, Goes, Cuts, Nothing, ask_of}
 use Rattle.apt_words.specs.Options.{◌>>=◌}
 use Rattle.apt_words.specs.Rows.{NoneHolds}
+use Rattle.apt_words.specs.declared.contour.Contouring.{Contouring}
 use Rattle.apt_plane.specs.declared.figures.Surface.{Surface}
 use Rattle.apt_records.specs.declared.record.Position.{Position}
 use Rattle.apt_records.specs.declared.record.Reach.{Reach}
@@ -84,13 +84,13 @@ without_side : (s : Settings) (side : Option Side) → not (has_feed (with_side 
 without_side s None fed = fed
 without_side s (Some side) fed = fed
 
-surfaces_fed : (here : Situation) (side : Option Side) (go : Go) (how : Stop) (n : Legs) (p : Option Position) (d c : Option Surface) → NoneHolds (surface_cases here side go how n p d c)
-    → IfSome (cuts n (p >>= λ start. d >>= λ drive. c >>= λ check. if_turned (with_side here.settings side) start drive (turn_at here start drive go) how check)) (IsFed here.settings)
-surfaces_fed here side go how n None d c none = tt
-surfaces_fed here side go how n (Some start) None c none = tt
-surfaces_fed here side go how n (Some start) (Some drive) None none = tt
-surfaces_fed here side go how n (Some start) (Some drive) (Some check) none =
-    cuts_fed here.settings n (if_turned (with_side here.settings side) start drive (turn_at here start drive go) how check) (without_side here.settings side none.1.0)
+surfaces_fed : (here : Situation) (contour : Contouring) (n : Legs) (p : Option Position) (d c : Option Surface) → NoneHolds (surface_cases here contour n p d c)
+    → IfSome (cuts n (p >>= λ start. d >>= λ drive. c >>= λ check. if_turned (with_side here.settings contour.side) start drive (turn_at here start drive contour.go) contour.stop check)) (IsFed here.settings)
+surfaces_fed here contour n None d c none = tt
+surfaces_fed here contour n (Some start) None c none = tt
+surfaces_fed here contour n (Some start) (Some drive) None none = tt
+surfaces_fed here contour n (Some start) (Some drive) (Some check) none =
+    cuts_fed here.settings n (if_turned (with_side here.settings contour.side) start drive (turn_at here start drive contour.go) contour.stop check) (without_side here.settings contour.side none.1.0)
 
 goto_fed : (here : Situation) (place : Place) → NoneHolds (place_cases here place ((lacks_feed here.settings, cases.NoFeed) ∷ [])) → IfSome (moves reaches.Goto (place_at here place)) (IsFed here.settings)
 goto_fed here (places.Xyz x y z) none = moves_fed here.settings reaches.Goto (Some (position_by here.settings.units x y z)) none
@@ -109,11 +109,11 @@ all_fed here (Says saying) none = tt
 all_fed here (Sets side) none = tt
 all_fed here (Defines name form) none = defined_fed here name form
 all_fed here (Goes route) none = goes_fed here route none
-all_fed here (Cuts side go drive how check n) none =
-    let d = surface_in here.table drive in
-    let c = surface_in here.table check in
-    unless_counted (legs_by (whole n)) (λ legs. cuts legs (motion_at here side go drive how check)) (λ legs. surface_cases here side go how legs here.position d c)
-    (λ o. IfSome o (IsFed here.settings)) (λ legs none. surfaces_fed here side go how legs here.position d c none) none.1.1.1.1.1
+all_fed here (Cuts contour n) none =
+    let d = surface_in here.table contour.drive in
+    let c = surface_in here.table contour.check in
+    unless_counted (legs_by (whole n)) (λ legs. cuts legs (motion_at here contour)) (λ legs. surface_cases here contour legs here.position d c)
+    (λ o. IfSome o (IsFed here.settings)) (λ legs none. surfaces_fed here contour legs here.position d c none) none.1.1.1.1.1
 all_fed here Nothing none = tt
 
 -- the effect of a step that no case refuses

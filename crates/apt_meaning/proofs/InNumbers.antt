@@ -40,7 +40,7 @@ use Rattle.apt_certify.specs.Legs.{slack, slack_of, beyond_of, IsBounded, IsWith
 use Rattle.apt_certify.specs.Legal.{EveryPointFrom, AreInOrder, last_of}
 use Rattle.apt_meaning.specs.declared.motion.Motion.{Motion}
 use Rattle.apt_meaning.specs.Motions.{drive_side, leg_on}
-use Rattle.apt_meaning.specs.Paths.{Drive, Due, Saying, nothing_said, with_point, counted, Contour, at_points, motion_said, first_leg, due_behind, cut_on, contour_said, with_note, with_record, record_contours, contours_behind, contours_of, IsLegalCut, EveryContour}
+use Rattle.apt_meaning.specs.Paths.{Drive, Due, Told, nothing_said, with_point, counted, Contour, at_points, motion_said, first_leg, due_behind, cut_on, contour_said, with_note, with_record, record_contours, contours_behind, contours_of, IsLegalCut, EveryContour}
 use Rattle.apt_meaning.specs.InNumbers.{larger, Numbers, numbers, IsOff, least_off, IsWithin, inner_margin, past_edge, IsBeside, Touches, IsBoundBy, RunsOnwards, far_edge, IsLegalInNumbers, said_at_check, LegsInNumbers, AreLegalInNumbers}
 use Rattle.apt_meaning.proofs.Walks.Alone.{every_split, every_join}
 
@@ -280,53 +280,49 @@ legal_is c sided =
 -- ---- the legs of a CL file
 
 -- the leg that is due has the numbers that were said in front of its check record
-record IsSaid (before : Saying) (d : Due) : Type 0 where
+record IsSaid (before : Told) (d : Due) : Type 0 where
   numbers : numbers_of d.motion ≡ numbers before
   sided : IsSided d.motion d.side
 
-abbrev IsSaidOrNone : Saying → Option Due → Type 0
+abbrev IsSaidOrNone : Told → Option Due → Type 0
 IsSaidOrNone before None = Unit {0}
 IsSaidOrNone before (Some d) = IsSaid before d
 
 counted_is : (t : ℤ) → counted t ≡ larger t (pos 8)
 counted_is t = grind (arith, ints)
 
-said_first : (s : Saying) (start : Position) (drive : Drive) (check : Surface) (how : Stop) → IsSaid s (first_leg (motion_said s start drive check how))
+said_first : (s : Told) (start : Position) (drive : Drive) (check : Surface) (how : Stop) → IsSaid s (first_leg (motion_said s start drive check how))
 said_first s start drive check how = record { numbers = rw (counted_is s.intol, counted_is s.outtol) refl; sided = λ e. rw e refl }
 
-due_first : (s : Saying) (p : Option Position) (d : Option Drive) (check : Surface) (how : Stop)
+due_first : (s : Told) (p : Option Position) (d : Option Drive) (check : Surface) (how : Stop)
     → IsSaidOrNone s (p >>= λ start. d >>= λ drive. Some (first_leg (motion_said s start drive check how)))
 due_first s None d check how = tt
 due_first s (Some start) None check how = tt
 due_first s (Some start) (Some drive) check how = said_first s start drive check how
 
-due_next : (before : Saying) (o : Option Due) (vertices : List Position) → IsSaidOrNone before o → IsSaidOrNone before (due_behind o vertices)
+due_next : (before : Told) (o : Option Due) (vertices : List Position) → IsSaidOrNone before o → IsSaidOrNone before (due_behind o vertices)
 due_next before None vertices is = tt
 due_next before (Some d) vertices is = record { numbers = is.numbers; sided = λ e. ap opposite (is.sided e) }
 
-note_due : (s : Saying) (note : Note) → (with_note s note).due ≡ s.due
+note_due : (s : Told) (note : Note) → (with_note s note).due ≡ s.due
 note_due s (notes.Partno text) = refl
 note_due s (notes.Units units) = refl
 note_due s (notes.Cutter d) = refl
 note_due s (notes.Intol t) = refl
 note_due s (notes.Outtol t) = refl
 note_due s (notes.Feed f) = refl
-note_due s (notes.Spindle turn n) = refl
-note_due s (notes.Coolant c) = refl
-note_due s (notes.Tool n) = refl
+note_due s (notes.Do command) = refl
 note_due s notes.Rapid = refl
-note_due s notes.Stop = refl
-note_due s notes.OptStop = refl
 note_due s notes.End = refl
 note_due s notes.Fini = refl
 
-point_due : (s : Saying) (reach : Reach) (to : Position) → (with_point s reach to).due ≡ s.due
+point_due : (s : Told) (reach : Reach) (to : Position) → (with_point s reach to).due ≡ s.due
 point_due s reaches.From to = refl
 point_due s reaches.Goto to = refl
 point_due s reaches.Godlta to = refl
 point_due s reaches.Start to = refl
 
-due_is : (before s : Saying) (r : Record) → IsSaidOrNone before s.due → IsSaidOrNone (said_at_check before s r) (with_record s r).due
+due_is : (before s : Told) (r : Record) → IsSaidOrNone before s.due → IsSaidOrNone (said_at_check before s r) (with_record s r).due
 due_is before s (records.Statement line step) is = is
 due_is before s (records.Note note) is = rw (note_due s note) is
 due_is before s (records.Drive surface side sense) is = is
@@ -334,7 +330,7 @@ due_is before s (records.Check surface how) is = due_first s s.position s.drive 
 due_is before s (records.Point reach to) is = rw (point_due s reach to) is
 due_is before s (records.Contour vertices) is = due_next before s.due vertices is
 
-leg_is : (before : Saying) (o : Option Due) (vertices : List Position) → IsSaidOrNone before o
+leg_is : (before : Told) (o : Option Due) (vertices : List Position) → IsSaidOrNone before o
     → EveryContour IsLegalCut (listed (contour_said o vertices)) ↔ EveryContour (IsLegalInNumbers (numbers before)) (listed (contour_said o vertices))
 leg_is before None vertices is = (λ h. tt, λ h. tt)
 leg_is before (Some d) vertices is =
@@ -342,7 +338,7 @@ leg_is before (Some d) vertices is =
     let legal : IsLegalCut c ↔ IsLegalInNumbers (numbers before) c = subst (λ (n : Numbers). IsLegalCut c ↔ IsLegalInNumbers n c) is.numbers (legal_is c is.sided) in
     (λ h. (legal.0 h.0, tt), λ h. (legal.1 h.0, tt))
 
-record_legs : (before s : Saying) (r : Record) → IsSaidOrNone before s.due → EveryContour IsLegalCut (record_contours s r) ↔ EveryContour (IsLegalInNumbers (numbers before)) (record_contours s r)
+record_legs : (before s : Told) (r : Record) → IsSaidOrNone before s.due → EveryContour IsLegalCut (record_contours s r) ↔ EveryContour (IsLegalInNumbers (numbers before)) (record_contours s r)
 record_legs before s (records.Statement line step) is = (λ h. h, λ h. h)
 record_legs before s (records.Note note) is = (λ h. h, λ h. h)
 record_legs before s (records.Drive surface side sense) is = (λ h. h, λ h. h)
@@ -350,7 +346,7 @@ record_legs before s (records.Check surface how) is = (λ h. h, λ h. h)
 record_legs before s (records.Point reach to) is = (λ h. h, λ h. h)
 record_legs before s (records.Contour vertices) is = leg_is before s.due vertices is
 
-legs_are : (before s : Saying) (rs : List Record) → IsSaidOrNone before s.due → EveryContour IsLegalCut (contours_behind s rs) ↔ LegsInNumbers before s rs
+legs_are : (before s : Told) (rs : List Record) → IsSaidOrNone before s.due → EveryContour IsLegalCut (contours_behind s rs) ↔ LegsInNumbers before s rs
 legs_are before s [] is = (λ h. h, λ h. h)
 legs_are before s (r ∷ rs) is =
     let first = record_legs before s r is in

@@ -4,6 +4,7 @@ pub mod Counts
 pub mod Said
 pub mod EffectRanges
 pub mod Asked
+pub mod Refused
 pub mod Fed
 pub mod Walks
 pub mod Moving

@@ -2,7 +2,6 @@
 use Rattle.std.proofs.Common.{◌≡◌, ℕ, Bool, true, false, List, Result, Ok, Err, Option, Some, None, IfSome, refl, subst, cond}
 use Rattle.apt_num.specs.declared.Sign.{Sign}
 use Rattle.apt_words.specs.declared.Case.{Case}
-use Rattle.apt_words.specs.declared.Go.{Go}
 use Rattle.apt_words.specs.declared.Side.{Side}
 use Rattle.apt_words.specs.declared.Stop.{Stop}
 use Rattle.apt_words.specs.declared.ask.Form.{Form}
@@ -12,6 +11,7 @@ use Rattle.apt_words.specs.declared.Units.{Units}
 use Rattle.apt_words.specs.declared.deed.Deed.{Deed}
 use Rattle.apt_words.specs.Asks.{Ask, Titles, Says, Sets, Defines, Goes, Cuts, Nothing, ask_of, asks_end}
 use Rattle.apt_words.specs.Options.{◌>>=◌}
+use Rattle.apt_words.specs.declared.contour.Contouring.{Contouring}
 use Rattle.apt_plane.specs.declared.figures.Surface.{Surface}
 use Rattle.apt_offset.specs.Turns.{is_zero}
 use Rattle.apt_offset.specs.Sides.{side_at_check}
@@ -48,7 +48,7 @@ IsNoteOf units (Says saying) note = note ≡ note_of units saying
 IsNoteOf units (Sets side) note = ⊥
 IsNoteOf units (Defines name form) note = ⊥
 IsNoteOf units (Goes route) note = ⊥
-IsNoteOf units (Cuts side go drive how check n) note = ⊥
+IsNoteOf units (Cuts contour n) note = ⊥
 IsNoteOf units Nothing note = ⊥
 
 abbrev pub IsSetBy : Units → Ask → Change → Type 0
@@ -99,14 +99,14 @@ turned_said here ask n side start drive turned how check on is_start =
     let m = motion (with_side here.settings side) start drive turned how check in
     unless_said here ask n (is_zero turned) (Some m) (on, motion_of here side start drive turned how check is_start)
 
-contour_said : (here : Situation) (ask : Ask) (n : Legs) (side : Option Side) (go : Go) (how : Stop) (p : Option Position) (d c : Option Surface)
+contour_said : (here : Situation) (ask : Ask) (n : Legs) (contour : Contouring) (p : Option Position) (d c : Option Surface)
     → asks_end ask ≡ false → here.position ≡ p
-    → IfSome (cuts n (p >>= λ start. d >>= λ drive. c >>= λ check. if_turned (with_side here.settings side) start drive (turn_at here start drive go) how check)) (IsSaidBy here ask)
-contour_said here ask n side go how None d c on is_start = tt
-contour_said here ask n side go how (Some start) None c on is_start = tt
-contour_said here ask n side go how (Some start) (Some drive) None on is_start = tt
-contour_said here ask n side go how (Some start) (Some drive) (Some check) on is_start =
-    turned_said here ask n side start drive (turn_at here start drive go) how check on is_start
+    → IfSome (cuts n (p >>= λ start. d >>= λ drive. c >>= λ check. if_turned (with_side here.settings contour.side) start drive (turn_at here start drive contour.go) contour.stop check)) (IsSaidBy here ask)
+contour_said here ask n contour None d c on is_start = tt
+contour_said here ask n contour (Some start) None c on is_start = tt
+contour_said here ask n contour (Some start) (Some drive) None on is_start = tt
+contour_said here ask n contour (Some start) (Some drive) (Some check) on is_start =
+    turned_said here ask n contour.side start drive (turn_at here start drive contour.go) contour.stop check on is_start
 
 goes_said : (here : Situation) (route : Route) → IfSome (goes here route) (IsSaidBy here (Goes route))
 goes_said here (routes.From place) = moves_said here (Goes (routes.From place)) reaches.From (place_at here place) refl
@@ -123,9 +123,9 @@ said here (Says saying) = refl
 said here (Sets side) = refl
 said here (Defines name form) = defined_said here name form
 said here (Goes route) = goes_said here route
-said here (Cuts side go drive how check n) =
-    if_counted (legs_by (whole n)) (λ legs. cuts legs (motion_at here side go drive how check)) (IsSaidBy here (Cuts side go drive how check n))
-    (λ legs. contour_said here (Cuts side go drive how check n) legs side go how here.position (surface_in here.table drive) (surface_in here.table check) refl refl)
+said here (Cuts contour n) =
+    if_counted (legs_by (whole n)) (λ legs. cuts legs (motion_at here contour)) (IsSaidBy here (Cuts contour n))
+    (λ legs. contour_said here (Cuts contour n) legs contour here.position (surface_in here.table contour.drive) (surface_in here.table contour.check) refl refl)
 said here Nothing = refl
 
 pub said_by : (here : Situation) (deed : Deed) (e : Effect) → effect_of here deed ≡ Some e → IsSaidBy here (ask_of deed) e

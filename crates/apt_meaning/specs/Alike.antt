@@ -37,7 +37,7 @@ ask_in_grid units (Says saying) = Says (saying_in_grid units saying)
 ask_in_grid units (Sets side) = Sets side
 ask_in_grid units (Defines name form) = Defines name (in_grid units form)
 ask_in_grid units (Goes route) = Goes (route_in_grid units route)
-ask_in_grid units (Cuts side go drive how check n) = Cuts side go drive how check n
+ask_in_grid units (Cuts contour n) = Cuts contour n
 ask_in_grid units Nothing = Nothing
 
 -- two asks, each in its units, are the same in grid units

@@ -5,13 +5,15 @@ use Rattle.apt_words.specs.declared.Case.{Case}
 use Rattle.apt_words.specs.declared.Case.TheVariants as cases
 use Rattle.apt_words.specs.declared.Refusal.{Refusal}
 use Rattle.apt_words.specs.declared.deed.Step.{Step}
+use Rattle.apt_words.specs.Asks.{Ask}
+use Rattle.apt_words.specs.Rows.{first_of}
 use Rattle.apt_records.specs.declared.record.Record.{Record}
 use Rattle.apt_meaning.specs.declared.situation.Situation.{Situation}
 use Rattle.apt_meaning.specs.declared.effect.Effect.{Effect}
 use Rattle.apt_meaning.specs.declared.effect.Effect.TheVariants as effects
 use Rattle.apt_meaning.specs.Cuts.{end_point, vertices_of, motions_of}
-use Rattle.apt_meaning.specs.Effects.{effect_of}
-use Rattle.apt_meaning.specs.Refusals.{refusal_of}
+use Rattle.apt_meaning.specs.Effects.{effect_by, effect_of}
+use Rattle.apt_meaning.specs.Refusals.{cases_by, refusal_of}
 use Rattle.apt_meaning.specs.Vertices.{cut_points}
 use Rattle.apt_meaning.specs.Records.{records_of, after}
 
@@ -41,6 +43,10 @@ abbrev pub asked : Option Case → Option Effect → Result Effect Case
 asked (Some case) e = Err case
 asked None None = Err cases.Undefined
 asked None (Some e) = Ok e
+
+-- the same by what the step is asked
+abbrev pub asked_by : Situation → Ask → Result Effect Case
+asked_by here ask = asked (first_of (cases_by here ask)) (effect_by here ask)
 
 -- a program has at most so many vertices of contours
 abbrev pub most_points : ℕ

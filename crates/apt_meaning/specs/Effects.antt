@@ -1,6 +1,8 @@
 -- What a step asks for, wherever the figures and the turn that it needs are there.
 use Rattle.std.specs.Prelude.{ℕ, ℤ, pos, ◌+ℤ◌, List, Option, Some, None, Result, Ok, Err, if◌then◌else◌}
 use Rattle.std.specs.Ordering.{int_eq}
+use Rattle.apt_words.specs.declared.Command.{Command}
+use Rattle.apt_words.specs.declared.Command.TheVariants as commands
 use Rattle.apt_words.specs.Asks.{Ask, Titles, Says, Sets, Defines, Goes, Cuts, Nothing, ask_of}
 use Rattle.apt_words.specs.declared.Case.{Case}
 use Rattle.apt_words.specs.declared.Turn.TheVariants as turns
@@ -29,6 +31,7 @@ use Rattle.apt_meaning.specs.declared.motion.Motion.{Motion}
 use Rattle.apt_stop.specs.declared.legs.Legs.{Legs}
 use Rattle.apt_stop.specs.declared.legs.Legs.TheVariants as the_legs
 use Rattle.apt_meaning.specs.declared.effect.Change.TheVariants as changes
+use Rattle.apt_meaning.specs.declared.effect.Cut.{Cut}
 use Rattle.apt_meaning.specs.declared.effect.Effect.{Effect}
 use Rattle.apt_meaning.specs.declared.effect.Effect.TheVariants as effects
 use Rattle.apt_meaning.specs.Situations.{position_at}
@@ -38,6 +41,14 @@ use Rattle.apt_meaning.specs.StartUps.{start_position_at}
 
 -- ---- what is said: lengths in grid units, feeds in tenths, speeds and tools in whole numbers
 
+-- a command in whole numbers
+abbrev pub rounded : Command → Command
+rounded (commands.Spindle turns.Cw n) = commands.Spindle turns.Cw (whole n)
+rounded (commands.Spindle turns.Ccw n) = commands.Spindle turns.Ccw (whole n)
+rounded (commands.Spindle turns.Off n) = commands.Spindle turns.Off (pos 0)
+rounded (commands.Tool n) = commands.Tool (whole n)
+rounded command = command
+
 -- the note that a saying has the CL file say
 abbrev pub note_of : Units → Saying → Note
 note_of units (sayings.Units others) = notes.Units others
@@ -45,14 +56,8 @@ note_of units (sayings.Diameter v) = notes.Cutter (grid_units units v)
 note_of units (sayings.Inward v) = notes.Intol (grid_units units v)
 note_of units (sayings.Outward v) = notes.Outtol (grid_units units v)
 note_of units (sayings.Feed v) = notes.Feed (tenths v)
-note_of units (sayings.Clockwise n) = notes.Spindle turns.Cw (whole n)
-note_of units (sayings.Anticlockwise n) = notes.Spindle turns.Ccw (whole n)
-note_of units sayings.SpindleOff = notes.Spindle turns.Off (pos 0)
-note_of units (sayings.Coolant cool) = notes.Coolant cool
-note_of units (sayings.Tool n) = notes.Tool (whole n)
+note_of units (sayings.Do command) = notes.Do (rounded command)
 note_of units sayings.Rapid = notes.Rapid
-note_of units sayings.Stop = notes.Stop
-note_of units sayings.OptStop = notes.OptStop
 note_of units sayings.End = notes.End
 note_of units sayings.Fini = notes.Fini
 
@@ -62,6 +67,10 @@ says note = Some (effects.Sets (changes.Said note))
 abbrev pub moves : Reach → Option Position → Option Effect
 moves reach None = None
 moves reach (Some to) = Some (effects.Moves reach to)
+
+abbrev pub moved : Option (Reach × Position) → Option Effect
+moved None = None
+moved (Some m) = Some (effects.Moves m.0 m.1)
 
 abbrev pub cuts : Legs → Option Motion → Option Effect
 cuts legs None = None
@@ -73,6 +82,10 @@ legs_by n = if int_eq n (pos 1) then Some the_legs.One else if int_eq n (pos 2) 
 
 abbrev pub cuts_by : ℤ → Option Motion → Option Effect
 cuts_by n m = legs_by n >>= λ legs. cuts legs m
+
+abbrev pub cut : Option Cut → Option Effect
+cut None = None
+cut (Some c) = Some (effects.Cuts c.motion c.legs)
 
 -- ---- lengths and places in grid units
 
@@ -132,7 +145,7 @@ effect_by here (Says saying) = says (note_of here.settings.units saying)
 effect_by here (Sets side) = Some (effects.Sets (changes.Side side))
 effect_by here (Defines name form) = defined here name form
 effect_by here (Goes route) = goes here route
-effect_by here (Cuts side go drive how check n) = cuts_by (whole n) (motion_at here side go drive how check)
+effect_by here (Cuts contour n) = cuts_by (whole n) (motion_at here contour)
 effect_by here Nothing = Some (effects.Sets changes.Nothing)
 
 abbrev pub effect_of : Situation → Deed → Option Effect

@@ -2,7 +2,7 @@
 -- cutter's radius and the two tolerances.
 use Rattle.std.specs.Prelude.{◌≢◌, ◌+◌, ◌*◌, ◌/◌, ◌≤◌, ℤ, pos, neg_ℤ, ◌+ℤ◌, ◌-ℤ◌, ◌<ℤ◌, unsigned_abs, int_lt, int_le, ◌||◌, MatchBool, List, [], ◌∷◌, if◌then◌else◌}
 use Rattle.apt_num.specs.declared.Sign.{Sign}
-use Rattle.apt_num.specs.declared.Sign.TheVariants as signs
+use Rattle.apt_num.specs.declared.Sign.TheVariants.{Plus as LeftOrInside, Zero as Upon, Minus as RightOrOutside}
 use Rattle.apt_num.specs.Sign.{square}
 use Rattle.apt_words.specs.declared.Stop.{Stop}
 use Rattle.apt_words.specs.declared.Stop.TheVariants as stops
@@ -19,7 +19,7 @@ use Rattle.apt_records.specs.declared.record.Record.TheVariants as records
 use Rattle.apt_certify.specs.Legs.{IsStep}
 use Rattle.apt_certify.specs.Legal.{IsSome, last_of, EveryPointFrom}
 use Rattle.apt_meaning.specs.Motions.{drive_side}
-use Rattle.apt_meaning.specs.Paths.{Saying, nothing_said, with_record, record_contours, Contour, EveryContour}
+use Rattle.apt_meaning.specs.Paths.{Told, nothing_said, with_record, record_contours, Contour, EveryContour}
 
 -- ---- the numbers
 
@@ -33,48 +33,47 @@ pub record Numbers : Type 0 where
   pub off : ℤ
 
 -- half the diameter, rounded up; INTOL and OUTTOL, each at least 8
-abbrev pub numbers : Saying → Numbers
+abbrev pub numbers : Told → Numbers
 numbers said = record { radius = pos ((unsigned_abs said.diameter + 1) / 2); into = larger said.intol (pos 8); off = larger said.outtol (pos 8) }
 
 -- ---- the band about a surface
 
--- a point is at least x off a surface, to its left or inside (Plus), or to its right or outside (Minus)
+-- a point is at least x off a surface, on this side of it
 abbrev pub IsOff : Surface → Sign → ℤ → Scaled → Type 0
-IsOff (surfaces.Line l) signs.Plus x p = IsOver (surfaces.Line l) x p
-IsOff (surfaces.Line l) signs.Minus x p = IsUnder (surfaces.Line l) (neg_ℤ x) p
-IsOff (surfaces.Line l) signs.Zero x p = Unit {0}
-IsOff (surfaces.Circ c) signs.Plus x p = IsUnder (surfaces.Circ c) (c.r -ℤ x) p
-IsOff (surfaces.Circ c) signs.Minus x p = IsOver (surfaces.Circ c) (c.r +ℤ x) p
-IsOff (surfaces.Circ c) signs.Zero x p = Unit {0}
+IsOff (surfaces.Line l) LeftOrInside x p = IsOver (surfaces.Line l) x p
+IsOff (surfaces.Line l) RightOrOutside x p = IsUnder (surfaces.Line l) (neg_ℤ x) p
+IsOff (surfaces.Line l) Upon x p = Unit {0}
+IsOff (surfaces.Circ c) LeftOrInside x p = IsUnder (surfaces.Circ c) (c.r -ℤ x) p
+IsOff (surfaces.Circ c) RightOrOutside x p = IsOver (surfaces.Circ c) (c.r +ℤ x) p
+IsOff (surfaces.Circ c) Upon x p = Unit {0}
 
--- how far off a surface the centre is at least, to the side of the cutter's place (Plus); to the other side (Minus), which says how far at most to the
--- first; and to either side where its place is on the surface (Zero)
+-- how far off a surface the centre is at least to its left or inside, by the cutter's place; to the right or outside by the opposite of that place
 abbrev pub least_off : Numbers → Sign → ℤ
-least_off n signs.Plus = n.radius -ℤ n.into
-least_off n signs.Minus = neg_ℤ (n.radius +ℤ n.off)
-least_off n signs.Zero = neg_ℤ (larger n.into n.off)
+least_off n LeftOrInside = n.radius -ℤ n.into
+least_off n RightOrOutside = neg_ℤ (n.radius +ℤ n.off)
+least_off n Upon = neg_ℤ (larger n.into n.off)
 
 -- the centre is within both tolerances of a surface
 pub record IsWithin (n : Numbers) (surface : Surface) (place : Sign) (p : Scaled) : Type 0 where
-  pub left : IsOff surface signs.Plus (least_off n place) p
-  pub right : IsOff surface signs.Minus (least_off n (opposite place)) p
+  pub left : IsOff surface LeftOrInside (least_off n place) p
+  pub right : IsOff surface RightOrOutside (least_off n (opposite place)) p
 
 -- ---- the far edge of the stop
 
 -- how far inside of its track a chord may lie, with the cutter inside of its drive circle, outside of it, and on it
 abbrev pub inner_margin : Numbers → Sign → ℤ
-inner_margin n signs.Plus = n.off
-inner_margin n signs.Minus = n.into
-inner_margin n signs.Zero = larger n.into n.off
+inner_margin n LeftOrInside = n.off
+inner_margin n RightOrOutside = n.into
+inner_margin n Upon = larger n.into n.off
 
 -- how far past that edge a point may be, by the drive surface, the place of the cutter there, the check surface, and the side of it on which the leg runs
 abbrev pub past_edge : Numbers → Surface → Sign → Surface → Sign → ℤ
 past_edge n (surfaces.Line l) place (surfaces.Line k) side = pos 0
 past_edge n (surfaces.Line l) place (surfaces.Circ d) side = pos 0
 past_edge n (surfaces.Circ c) place (surfaces.Line k) side = pos 4
-past_edge n (surfaces.Circ c) place (surfaces.Circ d) signs.Plus = pos 4
-past_edge n (surfaces.Circ c) place (surfaces.Circ d) signs.Minus = pos 4 +ℤ inner_margin n place
-past_edge n (surfaces.Circ c) place (surfaces.Circ d) signs.Zero = pos 4
+past_edge n (surfaces.Circ c) place (surfaces.Circ d) LeftOrInside = pos 4
+past_edge n (surfaces.Circ c) place (surfaces.Circ d) RightOrOutside = pos 4 +ℤ inner_margin n place
+past_edge n (surfaces.Circ c) place (surfaces.Circ d) Upon = pos 4
 
 -- ---- the axis on which a leg ends that touches its check surface
 
@@ -97,9 +96,9 @@ Touches (surfaces.Circ c) (surfaces.Circ d) q =
 
 -- a leg has a side of its check surface on which it runs; under TANTO it has none, and ends on the axis
 abbrev pub IsBoundBy : Stop → Surface → Surface → Sign → Pt → Type 0
-IsBoundBy stops.To drive check side q = side ≢ signs.Zero
-IsBoundBy stops.On drive check side q = side ≢ signs.Zero
-IsBoundBy stops.Past drive check side q = side ≢ signs.Zero
+IsBoundBy stops.To drive check side q = side ≢ Upon
+IsBoundBy stops.On drive check side q = side ≢ Upon
+IsBoundBy stops.Past drive check side q = side ≢ Upon
 IsBoundBy stops.Tanto drive check side q = Touches drive check q
 
 -- ---- a leg
@@ -132,15 +131,11 @@ pub record IsLegalInNumbers (n : Numbers) (c : Contour) : Type 0 where
 -- ---- all legs of a CL file
 
 -- what was said in front of the last check record
-abbrev pub said_at_check : Saying → Saying → Record → Saying
-said_at_check before s (records.Statement line step) = before
-said_at_check before s (records.Note note) = before
-said_at_check before s (records.Drive surface side sense) = before
+abbrev pub said_at_check : Told → Told → Record → Told
 said_at_check before s (records.Check surface how) = s
-said_at_check before s (records.Point reach to) = before
-said_at_check before s (records.Contour vertices) = before
+said_at_check before s _ = before
 
-abbrev pub LegsInNumbers : Saying → Saying → List Record → Type 0
+abbrev pub LegsInNumbers : Told → Told → List Record → Type 0
 LegsInNumbers before s [] = Unit {0}
 LegsInNumbers before s (r ∷ rs) = EveryContour (IsLegalInNumbers (numbers before)) (record_contours s r) × LegsInNumbers (said_at_check before s r) (with_record s r) rs
 

@@ -2,9 +2,9 @@
 use Rattle.std.specs.Prelude.{◌≡◌, ◌↔◌, ℤ, pos, ◌<ℤ◌, ◌≤ℤ◌, ◌&&◌, ◌||◌, not, Bool, false, is_some, List, ℕ, Option, Some, None, if◌then◌else◌}
 use Rattle.apt_num.specs.declared.Sign.{Sign}
 use Rattle.apt_words.specs.declared.Go.{Go}
-use Rattle.apt_words.specs.declared.Side.{Side}
 use Rattle.apt_words.specs.declared.Stop.{Stop}
 use Rattle.apt_words.specs.Options.{◌>>=◌}
+use Rattle.apt_words.specs.declared.contour.Contouring.{Contouring}
 use Rattle.apt_plane.specs.declared.figures.Pt.{Pt}
 use Rattle.apt_plane.specs.declared.figures.Surface.{Surface}
 use Rattle.apt_plane.specs.Vectors.{scaled}
@@ -142,9 +142,9 @@ abbrev pub turn_at : Situation → Position → Surface → Go → Sign
 turn_at here start drive go = turn here.forward (tangent drive start.xy) go
 
 -- the motion that a contour statement asks for, where its names stand for surfaces and its sense is there
-unfoldable pub motion_at : Situation → Option Side → Go → List ℕ → Stop → List ℕ → Option Motion
-motion_at here side go drive how check = do
+unfoldable pub motion_at : Situation → Contouring → Option Motion
+motion_at here contour = do
   start ← here.position
-  drive ← surface_in here.table drive
-  check ← surface_in here.table check
-  if_turned (with_side here.settings side) start drive (turn_at here start drive go) how check
+  drive ← surface_in here.table contour.drive
+  check ← surface_in here.table contour.check
+  if_turned (with_side here.settings contour.side) start drive (turn_at here start drive contour.go) contour.stop check

@@ -41,7 +41,7 @@ pub record Due : Type 0 where
 
 -- the units; the cutter's diameter, INTOL and OUTTOL in grid units, and the feed in tenths, as they were said last; whether a RAPID is pending; where
 -- the tool stands, and which way is forward; the last drive surface; and the leg that is due behind the last check surface
-pub record Saying : Type 0 where
+pub record Told : Type 0 where
   pub units : Units
   pub diameter : ℤ
   pub intol : ℤ
@@ -54,7 +54,7 @@ pub record Saying : Type 0 where
   pub due : Option Due
 
 -- before the first record: inches, a cutter without a diameter, INTOL 0, OUTTOL 50 units, no feed, no position and no way forward
-abbrev pub nothing_said : Saying
+abbrev pub nothing_said : Told
 nothing_said = record {
   units = the_units.Inch;
   diameter = pos 0;
@@ -92,11 +92,11 @@ forward_on (surfaces.Line l) sense p = record { dx = sense *ℤ l.dir.dx; dy = s
 forward_on (surfaces.Circ c) sense p = record { dx = sense *ℤ neg_ℤ (p.y -ℤ c.c.y); dy = sense *ℤ (p.x -ℤ c.c.x) }
 
 -- behind a move the tool stands there, and forward is its way
-abbrev pub moved : Saying → Position → Saying
+abbrev pub moved : Told → Position → Told
 moved s to = record s { position = Some to; forward = forward_to s.position to.xy s.forward }
 
 -- GOTO, GODLTA and GO spend a pending RAPID, which FROM leaves
-abbrev pub with_point : Saying → Reach → Position → Saying
+abbrev pub with_point : Told → Reach → Position → Told
 with_point s reaches.From to = moved s to
 with_point s reaches.Goto to = record (moved s to) { rapid = false }
 with_point s reaches.Godlta to = record (moved s to) { rapid = false }
@@ -122,7 +122,7 @@ abbrev pub at_points : List Position → List Pt
 at_points ps = map (λ p. p.xy) ps
 
 -- from where the tool stands, along the last drive surface, to a check surface
-abbrev pub motion_said : Saying → Position → Drive → Surface → Stop → Motion
+abbrev pub motion_said : Told → Position → Drive → Surface → Stop → Motion
 motion_said s start drive check how = record {
   start = start;
   drive = drive.surface;
@@ -141,7 +141,7 @@ abbrev pub first_leg : Motion → Due
 first_leg m = record { motion = m; side = stop_side m }
 
 -- the first leg is due behind a check record, where the tool stands somewhere and a drive surface was said
-abbrev pub due_said : Saying → Surface → Stop → Option Due
+abbrev pub due_said : Told → Surface → Stop → Option Due
 due_said s check how = do
   start ← s.position
   drive ← s.drive
@@ -176,7 +176,7 @@ forward_there (Some d) None forward = forward
 forward_there (Some d) (Some p) forward = forward_on d.surface d.sense p.xy
 
 -- behind a contour the tool stands at its last vertex, and forward is that of its drive surface there
-abbrev pub with_contour : Saying → List Position → Saying
+abbrev pub with_contour : Told → List Position → Told
 with_contour s vertices =
     record s {
       position = last_position s.position vertices;
@@ -187,24 +187,17 @@ with_contour s vertices =
 -- ---- the walk over records
 
 -- units, cutter, tolerances, feed and RAPID as a note says them; the other notes change nothing
-abbrev pub with_note : Saying → Note → Saying
-with_note s (notes.Partno text) = s
+abbrev pub with_note : Told → Note → Told
 with_note s (notes.Units units) = record s { units = units }
 with_note s (notes.Cutter d) = record s { diameter = d }
 with_note s (notes.Intol t) = record s { intol = t }
 with_note s (notes.Outtol t) = record s { outtol = t }
 with_note s (notes.Feed f) = record s { feed = f }
-with_note s (notes.Spindle turn n) = s
-with_note s (notes.Coolant c) = s
-with_note s (notes.Tool n) = s
 with_note s notes.Rapid = record s { rapid = true }
-with_note s notes.Stop = s
-with_note s notes.OptStop = s
-with_note s notes.End = s
-with_note s notes.Fini = s
+with_note s _ = s
 
 -- what is said behind one record more
-abbrev pub with_record : Saying → Record → Saying
+abbrev pub with_record : Told → Record → Told
 with_record s (records.Statement line step) = s
 with_record s (records.Note note) = with_note s note
 with_record s (records.Drive surface side sense) = record s { drive = Some (record { surface = surface; side = side; sense = sense }) }
@@ -213,23 +206,19 @@ with_record s (records.Point reach to) = with_point s reach to
 with_record s (records.Contour vertices) = with_contour s vertices
 
 -- what a list of records says, behind what was said before
-abbrev pub said_behind : Saying → List Record → Saying
+abbrev pub said_behind : Told → List Record → Told
 said_behind s [] = s
 said_behind s (r ∷ rs) = said_behind (with_record s r) rs
 
-abbrev pub said_of : List Record → Saying
+abbrev pub said_of : List Record → Told
 said_of rs = said_behind nothing_said rs
 
-abbrev pub record_contours : Saying → Record → List Contour
-record_contours s (records.Statement line step) = []
-record_contours s (records.Note note) = []
-record_contours s (records.Drive surface side sense) = []
-record_contours s (records.Check surface how) = []
-record_contours s (records.Point reach to) = []
+abbrev pub record_contours : Told → Record → List Contour
 record_contours s (records.Contour vertices) = listed (contour_said s.due vertices)
+record_contours s _ = []
 
 -- the legs that records say, behind what was said before
-abbrev pub contours_behind : Saying → List Record → List Contour
+abbrev pub contours_behind : Told → List Record → List Contour
 contours_behind s [] = []
 contours_behind s (r ∷ rs) = record_contours s r ++ contours_behind (with_record s r) rs
 

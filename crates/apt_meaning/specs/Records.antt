@@ -24,7 +24,7 @@ use Rattle.apt_meaning.specs.Situations.{first_situation, changed, settings_behi
 use Rattle.apt_records.specs.Vertices.{at_height}
 use Rattle.apt_meaning.specs.Motions.{is_defined}
 use Rattle.apt_meaning.specs.Effects.{effect_of}
-use Rattle.apt_meaning.specs.Paths.{Saying, radius_by, said_of, Contour, Due, first_leg, next_leg, cut_on}
+use Rattle.apt_meaning.specs.Paths.{Told, radius_by, said_of, Contour, Due, first_leg, next_leg, cut_on}
 
 -- ---- what an effect writes and leaves; only a contour has cuts: for each of its legs the vertices behind its start
 
@@ -125,7 +125,7 @@ FollowsAs Allowed here (step ∷ steps) written behind =
 -- ---- what holds behind records, beside what they say by themselves
 
 -- a situation has the settings, the position and the forward direction that records have said
-pub record IsAsSaid (s : Saying) (here : Situation) : Type 0 where
+pub record IsAsSaid (s : Told) (here : Situation) : Type 0 where
   pub units : here.settings.units ≡ s.units
   pub radius : here.settings.radius ≡ radius_by s.diameter
   pub intol : here.settings.intol ≡ s.intol

@@ -1,11 +1,11 @@
 -- The manual's table: for each thing that is asked the conditions that refuse it, in order, and their cases.
-use Rattle.std.specs.Prelude.{ℕ, ℤ, pos, int_lt, int_le, ◌&&◌, not, Bool, true, false, is_some, is_none, List, [], ◌∷◌, ◌++◌, Option, Some, None, Result, Ok, Err}
+use Rattle.std.specs.Prelude.{◌≡◌, ℕ, ℤ, pos, int_lt, int_le, ◌&&◌, not, Bool, true, false, is_some, is_none, List, [], ◌∷◌, ◌++◌, Option, Some, None, Result, Ok, Err}
 use Rattle.apt_num.specs.declared.Sign.{Sign}
+use Rattle.apt_words.specs.declared.Command.{Command}
+use Rattle.apt_words.specs.declared.Command.TheVariants as commands
 use Rattle.apt_words.specs.declared.Case.{Case}
 use Rattle.apt_words.specs.declared.Units.{Units}
 use Rattle.apt_words.specs.declared.Case.TheVariants as cases
-use Rattle.apt_words.specs.declared.Go.{Go}
-use Rattle.apt_words.specs.declared.Side.{Side}
 use Rattle.apt_words.specs.declared.Stop.{Stop}
 use Rattle.apt_words.specs.declared.Turn.TheVariants as turns
 use Rattle.apt_words.specs.declared.ask.Form.{Form}
@@ -15,8 +15,8 @@ use Rattle.apt_words.specs.declared.ask.Route.{Route}
 use Rattle.apt_words.specs.declared.ask.Route.TheVariants as routes
 use Rattle.apt_words.specs.declared.deed.Deed.{Deed}
 use Rattle.apt_words.specs.Asks.{Ask, Titles, Says, Sets, Defines, Goes, Cuts, Nothing, ask_of}
-use Rattle.apt_words.specs.Options.{◌>>=◌}
 use Rattle.apt_words.specs.Rows.{Row, first_of}
+use Rattle.apt_words.specs.declared.contour.Contouring.{Contouring}
 use Rattle.apt_scalar.specs.Scalars.{whole}
 use Rattle.apt_plane.specs.declared.figures.Surface.{Surface}
 use Rattle.apt_defs.specs.declared.figure.Figure.{Figure}
@@ -32,6 +32,11 @@ use Rattle.apt_startup.specs.StartUps.{start_up_cases}
 use Rattle.apt_records.specs.declared.record.Note.{Note}
 use Rattle.apt_records.specs.declared.record.Note.TheVariants as notes
 use Rattle.apt_records.specs.declared.record.Position.{Position}
+use Rattle.apt_records.specs.declared.record.Reach.{Reach}
+use Rattle.apt_records.specs.declared.record.Reach.TheVariants as reaches
+use Rattle.apt_meaning.specs.declared.effect.Cut.{Cut}
+use Rattle.apt_meaning.specs.declared.effect.Effect.{Effect}
+use Rattle.apt_meaning.specs.declared.effect.Effect.TheVariants as effects
 use Rattle.apt_meaning.specs.declared.situation.Settings.{Settings}
 use Rattle.apt_meaning.specs.declared.situation.Situation.{Situation}
 use Rattle.apt_meaning.specs.declared.motion.Motion.{Motion}
@@ -40,7 +45,7 @@ use Rattle.apt_stop.specs.declared.legs.Legs.TheVariants as the_legs
 use Rattle.apt_meaning.specs.Situations.{has_feed, lacks_feed, with_side}
 use Rattle.apt_meaning.specs.Motions.{motion, grid_step, as_surface, surface_in, turn_at, track_of, stop_of, starts_on_check, course_of}
 use Rattle.apt_meaning.specs.StartUps.{start_up_at}
-use Rattle.apt_meaning.specs.Effects.{note_of, as_position, position_by, moved_by, legs_by}
+use Rattle.apt_meaning.specs.Effects.{note_of, as_position, position_by, moved_from, legs_by}
 
 -- ---- numbers and names
 
@@ -146,32 +151,31 @@ motion_cases m = cut_cases m the_legs.One
 abbrev pub is_too_fine : Settings → Bool
 is_too_fine s = int_lt s.intol grid_step && int_lt s.outtol grid_step
 
+-- a contour with these settings
+abbrev pub feed_cases : Settings → List Row → List Row
+feed_cases s more = (s.rapid, cases.RapidContour) ∷ (not (has_feed s), cases.NoFeed) ∷ (is_too_fine s, cases.TooFine) ∷ more
+
 -- a contour whose drive surface runs so against forward
 abbrev pub turned_cases : Legs → Settings → Position → Surface → Sign → Stop → Surface → List Row
-turned_cases legs s start drive turned how check =
-    (s.rapid, cases.RapidContour) ∷ (not (has_feed s), cases.NoFeed) ∷ (is_too_fine s, cases.TooFine)
-    ∷ (is_zero turned, cases.NoTurn) ∷ cut_cases (motion s start drive turned how check) legs
+turned_cases legs s start drive turned how check = feed_cases s ((is_zero turned, cases.NoTurn) ∷ cut_cases (motion s start drive turned how check) legs)
 
-abbrev pub surface_cases : Situation → Option Side → Go → Stop → Legs → Option Position → Option Surface → Option Surface → List Row
-surface_cases here side go how legs (Some start) (Some drive) (Some check) =
-    turned_cases legs (with_side here.settings side) start drive (turn_at here start drive go) how check
-surface_cases here side go how legs (Some start) (Some drive) None = []
-surface_cases here side go how legs (Some start) None check = []
-surface_cases here side go how legs None drive check = []
+abbrev pub surface_cases : Situation → Contouring → Legs → Option Position → Option Surface → Option Surface → List Row
+surface_cases here contour legs (Some start) (Some drive) (Some check) =
+    turned_cases legs (with_side here.settings contour.side) start drive (turn_at here start drive contour.go) contour.stop check
+surface_cases here contour legs (Some start) (Some drive) None = []
+surface_cases here contour legs (Some start) None check = []
+surface_cases here contour legs None drive check = []
 
 -- a count of meetings other than 1 and 2 is BadCount; else it is the number of legs, and what refuses a contour of so many
 abbrev pub counted_cases : Option Legs → (Legs → List Row) → List Row
 counted_cases None more = (true, cases.BadCount) ∷ []
 counted_cases (Some legs) more = more legs
 
-abbrev pub contour_cases : Situation → Option Side → Go → List ℕ → Stop → List ℕ → ℤ → List Row
-contour_cases here side go drive how check n =
+abbrev pub contour_cases : Situation → Contouring → ℤ → List Row
+contour_cases here contour n =
     (is_none here.position, cases.NoFrom)
-    ∷ name_cases here.table drive (name_cases here.table check
-    (counted_cases (legs_by (whole n)) (λ legs. surface_cases here side go how legs here.position (surface_in here.table drive) (surface_in here.table check))))
-
-abbrev pub godlta_cases : Situation → ℤ → ℤ → ℤ → List Row
-godlta_cases here x y z = (is_none here.position, cases.NoFrom) ∷ move_cases here.settings (here.position >>= λ p. Some (moved_by here.settings.units x y z p))
+    ∷ name_cases here.table contour.drive (name_cases here.table contour.check
+    (counted_cases (legs_by (whole n)) (λ legs. surface_cases here contour legs here.position (surface_in here.table contour.drive) (surface_in here.table contour.check))))
 
 -- what refuses a place, by the units and the figures
 abbrev pub placed_cases : Units → Table → Place → List Row → List Row
@@ -183,29 +187,26 @@ place_cases here place more = placed_cases here.settings.units here.table place 
 
 -- ---- the table of what is asked
 
+-- a command whose number is out of its range
+abbrev pub command_cases : Command → List Row
+command_cases (commands.Spindle turns.Cw n) = under_one n ∷ []
+command_cases (commands.Spindle turns.Ccw n) = under_one n ∷ []
+command_cases (commands.Tool n) = under_one n ∷ []
+command_cases _ = []
+
 -- a note whose number is out of its range
 abbrev pub note_cases : Note → List Row
-note_cases (notes.Partno text) = []
-note_cases (notes.Units units) = []
 note_cases (notes.Cutter d) = length_cases (pos 1000000) d
 note_cases (notes.Intol t) = length_cases (pos 10000) t
 note_cases (notes.Outtol t) = length_cases (pos 10000) t
 note_cases (notes.Feed f) = under_one f ∷ []
-note_cases (notes.Spindle turns.Cw n) = under_one n ∷ []
-note_cases (notes.Spindle turns.Ccw n) = under_one n ∷ []
-note_cases (notes.Spindle turns.Off n) = []
-note_cases (notes.Coolant c) = []
-note_cases (notes.Tool n) = under_one n ∷ []
-note_cases notes.Rapid = []
-note_cases notes.Stop = []
-note_cases notes.OptStop = []
-note_cases notes.End = []
-note_cases notes.Fini = []
+note_cases (notes.Do command) = command_cases command
+note_cases _ = []
 
 abbrev pub route_cases : Situation → Route → List Row
 route_cases here (routes.From place) = (is_some here.position, cases.FromAgain) ∷ place_cases here place []
 route_cases here (routes.Goto place) = place_cases here place ((lacks_feed here.settings, cases.NoFeed) ∷ [])
-route_cases here (routes.By x y z) = godlta_cases here x y z
+route_cases here (routes.By x y z) = (is_none here.position, cases.NoFrom) ∷ move_cases here.settings (moved_from here x y z)
 route_cases here (routes.Start how name other) = go_cases here how name other
 
 abbrev pub cases_by : Situation → Ask → List Row
@@ -214,7 +215,7 @@ cases_by here (Says saying) = note_cases (note_of here.settings.units saying)
 cases_by here (Sets side) = []
 cases_by here (Defines name form) = refused_form here form
 cases_by here (Goes route) = route_cases here route
-cases_by here (Cuts side go drive how check n) = contour_cases here side go drive how check n
+cases_by here (Cuts contour n) = contour_cases here contour n
 cases_by here Nothing = []
 
 abbrev pub cases_of : Situation → Deed → List Row
@@ -223,3 +224,17 @@ cases_of here deed = cases_by here (ask_of deed)
 -- the first case that refuses a step
 abbrev pub refusal_of : Situation → Deed → Option Case
 refusal_of here deed = first_of (cases_of here deed)
+
+-- ---- where a move leads, or a contour is asked for
+
+-- the cases that can still refuse a move that leads there
+abbrev pub moved_cases : Situation → Reach → Position → List Row
+moved_cases here reaches.From to = (is_some here.position, cases.FromAgain) ∷ position_cases to []
+moved_cases here reaches.Goto to = move_cases here.settings (Some to)
+moved_cases here reaches.Godlta to = move_cases here.settings (Some to)
+moved_cases here reaches.Start to = (lacks_feed here.settings, cases.NoFeed) ∷ []
+
+-- what a contour cuts, which only the cases of its ends can still refuse, or the first case that refuses it
+abbrev pub IsCutOr : Option Case → Option Effect → Result Cut Case → Type 0
+IsCutOr refusal effect (Ok c) = (effect ≡ Some (effects.Cuts c.motion c.legs)) × (refusal ≡ first_of (cut_cases c.motion c.legs))
+IsCutOr refusal effect (Err case) = refusal ≡ Some case

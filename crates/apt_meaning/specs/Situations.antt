@@ -51,20 +51,13 @@ radius_of diameter = (diameter + 1) / 2
 
 -- the settings behind a note
 abbrev pub settings_with : Settings → Note → Settings
-settings_with s (notes.Partno text) = s
 settings_with s (notes.Units units) = record s { units = units }
 settings_with s (notes.Cutter d) = record s { radius = pos (radius_of (unsigned_abs d)) }
 settings_with s (notes.Intol t) = record s { intol = t }
 settings_with s (notes.Outtol t) = record s { outtol = t }
 settings_with s (notes.Feed f) = record s { feed = f }
-settings_with s (notes.Spindle turn n) = s
-settings_with s (notes.Coolant c) = s
-settings_with s (notes.Tool n) = s
 settings_with s notes.Rapid = record s { rapid = true }
-settings_with s notes.Stop = s
-settings_with s notes.OptStop = s
-settings_with s notes.End = s
-settings_with s notes.Fini = s
+settings_with s _ = s
 
 -- the settings behind what a step sets
 abbrev pub changed : Settings → Change → Settings

@@ -14,6 +14,13 @@ pub enum Change {
     Nothing,
 }
 
+/// What a contour cuts: its motion from where the tool stands, in so many legs.
+#[derive(Clone, Copy)]
+pub struct Cut {
+    pub motion: Motion,
+    pub legs: Legs,
+}
+
 /// What a step asks for.
 #[derive(Drop)]
 pub enum Effect {

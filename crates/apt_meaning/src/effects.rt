@@ -1,7 +1,7 @@
 //! What steps ask for, refusals aside.
 
 ghost use Rattle.std.specs.Prelude.{◌≡◌, Some, IfOk, IfSome};
-ghost use Rattle.apt_words.specs.Asks.{ask_of, form_numbers, place_numbers, route_numbers, saying_numbers};
+ghost use Rattle.apt_words.specs.Asks.{ask_of, command_numbers, form_numbers, place_numbers, route_numbers, saying_numbers};
 ghost use Rattle.apt_scalar.specs.Scalars.{IsScalar, whole};
 ghost use Rattle.apt_scalar.specs.StepScalars.{AllScalars, HasScalars};
 ghost use Rattle.apt_startup.specs.Ranges.{IsStartUp};
@@ -11,12 +11,12 @@ ghost use Rattle.apt_words.specs.declared.deed.Deed.{Deed};
 ghost use Rattle.apt_meaning.specs.Alike.{AskAlike, with_units};
 ghost use Rattle.apt_meaning.specs.Effects as asking;
 ghost use Rattle.apt_meaning.specs.Motions as motions;
-ghost use Rattle.apt_meaning.specs.Ranges.{IsSituation, HasMotion};
+ghost use Rattle.apt_meaning.specs.Ranges.{IsSituation, IsMotion, HasMotion};
 ghost use Rattle.apt_meaning.specs.StartUps as start_ups;
 
 use crate::start_up::start_up_at;
 use crate::{
-    Change, Effect, Motion, Situation, moved_by, place_in, position_by, surface_in, turn_at,
+    Change, Cut, Effect, Motion, Situation, moved_by, place_in, position_by, surface_in, turn_at,
 };
 use apt_defs::figure_of;
 use apt_offset::signs::is_zero;
@@ -25,7 +25,9 @@ use apt_records::{Note, Position, Reach};
 use apt_scalar::{grid_units, tenths, whole};
 use apt_startup::{StartUp, start};
 use apt_stop::Legs;
-use apt_words::{Ask, Deed, Form, Go, Place, Route, Saying, Side, Stop, Symbol, Turn, Units};
+use apt_words::{
+    Ask, Command, Contouring, Deed, Form, Place, Route, Saying, Stop, Symbol, Turn, Units,
+};
 use std::alloc::AllocError;
 
 /// The note that a statement has the CL file say: lengths in grid units by the units that hold, feeds in tenths,
@@ -40,16 +42,23 @@ pub fn note_of(units: Units, saying: &Saying) -> Note
         Saying::Inward(v) => Note::Intol(grid_units(units, *v)),
         Saying::Outward(v) => Note::Outtol(grid_units(units, *v)),
         Saying::Feed(v) => Note::Feed(tenths(*v)),
-        Saying::Clockwise(n) => Note::Spindle(Turn::Cw, whole(*n)),
-        Saying::Anticlockwise(n) => Note::Spindle(Turn::Ccw, whole(*n)),
-        Saying::SpindleOff => Note::Spindle(Turn::Off, 0),
-        Saying::Coolant(cool) => Note::Coolant(*cool),
-        Saying::Tool(n) => Note::Tool(whole(*n)),
+        Saying::Do(command) => Note::Do(rounded(*command)),
         Saying::Rapid => Note::Rapid,
-        Saying::Stop => Note::Stop,
-        Saying::OptStop => Note::OptStop,
         Saying::End => Note::End,
         Saying::Fini => Note::Fini,
+    }
+}
+
+/// A command in whole numbers.
+fn rounded(command: Command) -> Command
+    requires { AllScalars (command_numbers command) }
+    ensures { result ≡ asking.rounded command }
+{
+    match command {
+        Command::Spindle(Turn::Off, _) => Command::Spindle(Turn::Off, 0),
+        Command::Spindle(turn, n) => Command::Spindle(turn, whole(n)),
+        Command::Tool(n) => Command::Tool(whole(n)),
+        _ => command,
     }
 }
 
@@ -66,10 +75,10 @@ pub fn effect_of(here: &Situation, deed: &Deed) -> Result<Option<Effect>, AllocE
     ensures alike { (units : Units) (same : Deed) → AskAlike here.now.settings.units (ask_of deed.now) units (ask_of same) → IfOk result (λ e. e ≡ asking.effect_of (with_units here.now units) same) }
     ensures motion { IfOk result (λ e. IfSome e HasMotion) }
 {
-    asked(here, deed)
+    effect_value(here, deed)
 }
 
-fn asked(here: &Situation, deed: &Deed) -> Result<Option<Effect>, AllocError>
+fn effect_value(here: &Situation, deed: &Deed) -> Result<Option<Effect>, AllocError>
     requires situation { IsSituation here.now }
     requires scalars { HasScalars deed.now }
     ensures { IfOk result (λ e. e ≡ asking.effect_of here.now deed.now) }
@@ -78,11 +87,9 @@ fn asked(here: &Situation, deed: &Deed) -> Result<Option<Effect>, AllocError>
         Ask::Titles(text) => Ok(Some(says(Note::Partno(text.copied()?)))),
         Ask::Says(saying) => Ok(Some(says(note_of(here.settings.units, &saying)))),
         Ask::Sets(side) => Ok(Some(Effect::Sets(Change::Side(side)))),
-        Ask::Defines(name, form) => Ok(defined(here, name, &form)),
-        Ask::Goes(route) => Ok(goes(here, &route)),
-        Ask::Cuts(side, go, drive, how, check, n) => {
-            Ok(contour(here, side, go, &drive, how, &check, n))
-        }
+        Ask::Defines(name, form) => Ok(definition(here, name, &form)),
+        Ask::Goes(route) => Ok(moves(here, &route)),
+        Ask::Cuts(contour, n) => Ok(cuts(here, contour, n)),
         Ask::Nothing => Ok(Some(Effect::Sets(Change::Nothing))),
     }
 }
@@ -96,7 +103,7 @@ fn says(note: Note) -> Effect
 
 /// The figure of a name, where no case refuses it.
 #[tactic(auto, unfolding(crate::specs::Effects::defined))]
-fn defined(here: &Situation, name: Symbol, form: &Form) -> Option<Effect>
+fn definition(here: &Situation, name: Symbol, form: &Form) -> Option<Effect>
     requires { AllScalars (form_numbers form.now) }
     ensures { result ≡ asking.defined here.now name form.now }
 {
@@ -106,28 +113,31 @@ fn defined(here: &Situation, name: Symbol, form: &Form) -> Option<Effect>
     }
 }
 
-/// The move to a place.
-fn goes(here: &Situation, route: &Route) -> Option<Effect>
+fn moves(here: &Situation, route: &Route) -> Option<Effect>
     requires situation { IsSituation here.now }
     requires scalars { AllScalars (route_numbers route.now) }
     ensures { result ≡ asking.goes here.now route.now }
 {
-    match route {
-        Route::From(place) => to_place(here, Reach::From, place),
-        Route::Goto(place) => to_place(here, Reach::Goto, place),
-        Route::By(x, y, z) => godlta(here, *x, *y, *z),
-        Route::Start(how, name, other) => go(here, *how, name, other),
-    }
-}
-
-fn to_place(here: &Situation, reach: Reach, place: &Place) -> Option<Effect>
-    requires { AllScalars (place_numbers place.now) }
-    ensures { result ≡ asking.moves reach (asking.place_at here.now place.now) }
-{
-    let to = place_at(here, place)?;
+    let (reach, to) = goes(here, route)?;
     Some(Effect::Moves(reach, to))
 }
 
+/// Where a move leads, and how.
+#[inline(always)]
+pub(crate) fn goes(here: &Situation, route: &Route) -> Option<(Reach, Position)>
+    requires situation { IsSituation here.now }
+    requires scalars { AllScalars (route_numbers route.now) }
+    ensures { asking.goes here.now route.now ≡ asking.moved result }
+{
+    match route {
+        Route::From(place) => Some((Reach::From, place_at(here, place)?)),
+        Route::Goto(place) => Some((Reach::Goto, place_at(here, place)?)),
+        Route::By(x, y, z) => Some((Reach::Godlta, led_by(here, *x, *y, *z)?)),
+        Route::Start(how, name, other) => Some((Reach::Start, start_at(here, *how, name, other)?)),
+    }
+}
+
+#[inline(always)]
 fn place_at(here: &Situation, place: &Place) -> Option<Position>
     requires { AllScalars (place_numbers place.now) }
     ensures { result ≡ asking.place_at here.now place.now }
@@ -138,43 +148,46 @@ fn place_at(here: &Situation, place: &Place) -> Option<Position>
     }
 }
 
-fn godlta(here: &Situation, x: i64, y: i64, z: i64) -> Option<Effect>
+fn led_by(here: &Situation, x: i64, y: i64, z: i64) -> Option<Position>
     requires situation { IsSituation here.now }
     requires x { IsScalar x }
     requires y { IsScalar y }
     requires z { IsScalar z }
-    ensures { result ≡ asking.moves Reach.Godlta (asking.moved_from here.now x y z) }
+    ensures { result ≡ asking.moved_from here.now x y z }
 {
     let from = here.position?;
-    let to = moved_by(here.settings.units, x, y, z, from);
-    Some(Effect::Moves(Reach::Godlta, to))
+    Some(moved_by(here.settings.units, x, y, z, from))
 }
 
-/// The move to the start-up point.
-fn go(here: &Situation, how: Stop, name: &Symbol, other: &Option<(Stop, Symbol)>) -> Option<Effect>
+/// The start-up point, at the height of where the tool stands.
+fn start_at(
+    here: &Situation,
+    how: Stop,
+    name: &Symbol,
+    other: &Option<(Stop, Symbol)>,
+) -> Option<Position>
     requires { IsSituation here.now }
-    ensures { result ≡ asking.moves Reach.Start (start_ups.start_position_at here.now how name.now other.now) }
+    ensures { result ≡ start_ups.start_position_at here.now how name.now other.now }
 {
     let from = here.position?;
     let start_up = start_up_at(here, how, name, other)?;
-    start_move(from, &start_up)
+    start_from(from, &start_up)
 }
 
-/// The move to where a start-up ends.
-fn start_move(from: Position, u: &StartUp) -> Option<Effect>
+fn start_from(from: Position, u: &StartUp) -> Option<Position>
     requires { IsStartUp u.now }
-    ensures { result ≡ asking.moves Reach.Start (start_ups.start_position from u.now) }
+    ensures { result ≡ start_ups.start_position from u.now }
 {
     match start(u) {
-        Ok(xy) => Some(start_to(from, xy)),
+        Ok(xy) => Some(level_with(from, xy)),
         Err(_) => None,
     }
 }
 
-fn start_to(from: Position, xy: Pt) -> Effect
-    ensures { result ≡ Effect.Moves Reach.Start (at_height from.z xy) }
+fn level_with(from: Position, xy: Pt) -> Position
+    ensures { result ≡ at_height from.z xy }
 {
-    Effect::Moves(Reach::Start, Position { xy, z: from.z })
+    Position { xy, z: from.z }
 }
 
 /// How many legs a count of meetings in millionths asks for: the first meeting one, the second two, and no other any.
@@ -199,44 +212,42 @@ fn legs_to(n: i64) -> Option<Legs>
     }
 }
 
-/// A contour to the n-th meeting with its check surface, with n in millionths.
-fn contour(
-    here: &Situation,
-    side: Option<Side>,
-    go: Go,
-    drive: &Symbol,
-    how: Stop,
-    check: &Symbol,
-    n: i64,
-) -> Option<Effect>
+fn cuts(here: &Situation, contour: &Contouring, n: i64) -> Option<Effect>
     requires situation { IsSituation here.now }
     requires count { IsScalar n }
-    ensures { result ≡ asking.cuts_by (whole n) (motions.motion_at here.now side go drive.now how check.now) }
+    ensures { result ≡ asking.cuts_by (whole n) (motions.motion_at here.now contour.now) }
 {
-    let legs = legs_by(n)?;
-    let motion = motion_at(here, side, go, drive, how, check)?;
-    Some(Effect::Cuts(motion, legs))
+    let cut = cut_at(here, contour, n)?;
+    Some(Effect::Cuts(cut.motion, cut.legs))
 }
 
+/// What a contour cuts that goes to the n-th meeting with its check surface, with n in millionths.
+#[inline(always)]
+pub(crate) fn cut_at(here: &Situation, contour: &Contouring, n: i64) -> Option<Cut>
+    requires situation { IsSituation here.now }
+    requires count { IsScalar n }
+    ensures value { asking.cuts_by (whole n) (motions.motion_at here.now contour.now) ≡ asking.cut result }
+    ensures range { IfSome result (λ c. IsMotion c.motion) }
+{
+    let legs = legs_by(n)?;
+    let motion = motion_at(here, contour)?;
+    Some(Cut { motion, legs })
+}
+
+#[inline(always)]
 #[tactic(auto, unfolding(crate::specs::Motions::motion_at))]
-fn motion_at(
-    here: &Situation,
-    side: Option<Side>,
-    go: Go,
-    drive: &Symbol,
-    how: Stop,
-    check: &Symbol,
-) -> Option<Motion>
+fn motion_at(here: &Situation, contour: &Contouring) -> Option<Motion>
     requires { IsSituation here.now }
-    ensures { result ≡ motions.motion_at here.now side go drive.now how check.now }
+    ensures value { result ≡ motions.motion_at here.now contour.now }
+    ensures range { IfSome result IsMotion }
 {
     let start = here.position?;
-    let drive = surface_in(&here.table, drive)?;
-    let check = surface_in(&here.table, check)?;
-    let settings = here.settings.with_side(side);
-    let turned = turn_at(here.forward, start, &drive, go);
+    let drive = surface_in(&here.table, &contour.drive)?;
+    let check = surface_in(&here.table, &contour.check)?;
+    let settings = here.settings.with_side(contour.side);
+    let turned = turn_at(here.forward, start, &drive, contour.go);
     if is_zero(turned) {
         return None;
     }
-    Some(Motion::along(&settings, start, &drive, turned, how, &check))
+    Some(Motion::along(&settings, start, &drive, turned, contour.stop, &check))
 }

@@ -66,11 +66,11 @@ impl Motion {
         ensures outer { motions.CountsAs settings.now.outtol result.outer }
         ensures range { IsMotion result }
     {
-        Motion::turned(settings, start, drive, turned, how, check)
+        Motion::along_value(settings, start, drive, turned, how, check)
     }
 
     #[inline(always)]
-    fn turned(
+    fn along_value(
         settings: &Settings,
         start: Position,
         drive: &Surface,

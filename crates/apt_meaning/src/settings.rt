@@ -11,7 +11,7 @@ use apt_words::Side;
 
 impl Settings {
     /// Those behind a note: the cutter's radius is half its diameter, rounded up.
-    fn set_by(&mut self, note: &Note)
+    pub fn set_by(&mut self, note: &Note)
         requires { IsNote note.now }
         ensures { self.new ≡ situations.settings_with self.old note.now }
     {
@@ -22,8 +22,7 @@ impl Settings {
             Note::Outtol(outtol) => self.outtol = *outtol,
             Note::Feed(feed) => self.feed = *feed,
             Note::Rapid => self.rapid = true,
-            Note::Partno(_) | Note::Spindle(..) | Note::Coolant(_) | Note::Tool(_) => {}
-            Note::Stop | Note::OptStop | Note::End | Note::Fini => {}
+            Note::Partno(_) | Note::Do(_) | Note::End | Note::Fini => {}
         }
     }
 

@@ -29,7 +29,8 @@ use Rattle.apt_meaning.proofs.Contours.Arcs.{vertices_by, vertices-vertices_by}
 use Rattle.apt_words.specs.Answers.{Tells}
 use Rattle.apt_motion.specs.declared.runs.RunError.{RunError}
 use Rattle.apt_motion.specs.declared.runs.RunError.TheVariants as errors
-use Rattle.apt_motion.specs.Ends.{refusal_in, IsStopped}
+use Rattle.apt_motion.specs.Ends.{refusal_in}
+use Rattle.apt_motion.specs.Acts.{IsRefused}
 use Rattle.apt_motion.specs.Drafts.{ArcAt, drawn, drawn_by, drawn_on, rounds_along, rounds_of, rounds_by, round_at, Draft, behind, or_stopped, draft_from, vertices_at, chords_of, is_open, known, Mark, mark_at, overfull, too_many, nowhere, filled, or_refusal, finished}
 
 -- ---- the draft, step by step
@@ -46,20 +47,20 @@ draws_on front first here step steps e whole does so_far =
     ∙ sym (ap (λ a. behind front first (or_stopped step a (λ e. draft_from (after here e (ends_of e)) steps))) does) ∙ so_far
 
 -- a step that is refused ends it
-stopped_at : (front now : List Record) (first later : List ArcAt) (here : Situation) (step : Step) (steps : List Step) (refusal : Refusal) (case : Case) (whole : Draft)
-    → IsStopped here step front now first later refusal case → behind front first (draft_from here (step ∷ steps)) ≡ whole
-    → whole ≡ record { records = now; rounds = later; refusal = Some refusal }
-stopped_at front now first later here step steps refusal case whole stopped so_far =
+stopped_at : {P : Type 0} (front : List Record) (first : List ArcAt) (here : Situation) (step : Step) (steps : List Step) (before now : P) (refusal : Refusal) (case : Case) (whole : Draft)
+    → IsRefused here step before now refusal case → behind front first (draft_from here (step ∷ steps)) ≡ whole
+    → whole ≡ record { records = front; rounds = first; refusal = Some refusal }
+stopped_at front first here step steps before now refusal case whole stopped so_far =
     sym so_far
     ∙ ap (λ a. behind front first (or_stopped step a (λ e. draft_from (after here e (ends_of e)) steps))) stopped.asks
-    ∙ rw (append-nil front, append-nil first, stopped.records, stopped.rounds, stopped.told) refl
+    ∙ rw (append-nil front, append-nil first, stopped.told) refl
 
-pub stops_at : (front now : List Record) (first later : List ArcAt) (here : Situation) (step : Step) (steps : List Step) (error : RunError) (refusal : Refusal) (whole : Draft)
-    → error ≡ errors.Refused refusal → Tells (λ refusal. (case : Case) × IsStopped here step front now first later refusal case) (refusal_in error)
-    → behind front first (draft_from here (step ∷ steps)) ≡ whole → whole ≡ record { records = now; rounds = later; refusal = Some refusal }
-stops_at front now first later here step steps error refusal whole is tells so_far =
-    let stopped = subst (λ e. Tells (λ refusal. (case : Case) × IsStopped here step front now first later refusal case) (refusal_in e)) is tells in
-    stopped_at front now first later here step steps refusal stopped.0 whole stopped.1 so_far
+pub stops_at : {P : Type 0} (front : List Record) (first : List ArcAt) (here : Situation) (step : Step) (steps : List Step) (before now : P) (error : RunError) (refusal : Refusal) (whole : Draft)
+    → error ≡ errors.Refused refusal → Tells (λ refusal. (case : Case) × IsRefused here step before now refusal case) (refusal_in error)
+    → behind front first (draft_from here (step ∷ steps)) ≡ whole → (now ≡ before) × (whole ≡ record { records = front; rounds = first; refusal = Some refusal })
+stops_at front first here step steps before now error refusal whole is tells so_far =
+    let stopped = subst (λ e. Tells (λ refusal. (case : Case) × IsRefused here step before now refusal case) (refusal_in e)) is tells in
+    (stopped.1.same, stopped_at front first here step steps before now refusal stopped.0 whole stopped.1 so_far)
 
 -- ---- a record that is no contour
 

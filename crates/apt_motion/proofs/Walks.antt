@@ -19,17 +19,14 @@ use Rattle.apt_meaning.specs.Cuts.{IsOwnCut}
 use Rattle.apt_meaning.proofs.Asked.{CutsLegally}
 use Rattle.apt_meaning.proofs.Walks.Alone.{follows, legal_contours, own_contours}
 use Rattle.apt_meaning.specs.Compiled.{ends_of, points_of, most_points, asked, or_first, first_refused, compilation}
-use Rattle.apt_meaning.specs.Ranges.{IsSituation, IsEffect}
+use Rattle.apt_meaning.specs.Ranges.{IsSituation}
 use Rattle.apt_meaning.proofs.Asked.{answered}
 use Rattle.apt_meaning.proofs.Walks.Kept.{kept, first_situation-IsSituation}
 use Rattle.apt_meaning.proofs.Walks.Compiled.{fit as fit_of, after_points, compiled_follows}
 use Rattle.apt_meaning.proofs.Walks.Files.{compiled_fit}
 use Rattle.apt_motion.specs.declared.runs.RunError.{RunError}
-use Rattle.apt_motion.specs.Ends.{refusal_in}
 use Rattle.apt_words.specs.Answers.{IsDueAs}
-use Rattle.apt_defs.specs.Definitions.{IsNoDefinition}
-use Rattle.apt_motion.specs.Finding.{IsNoContour, SetsOrMoves}
-use Rattle.apt_motion.proofs.Plain.{is_plain}
+use Rattle.apt_motion.specs.Ends.{refusal_in}
 
 -- one more step that passes
 pub passes_on : (here : Situation) (step : Step) (steps : List Step) (e : Effect) (total : Option Refusal) → asked (refusal_of here step.deed) (effect_of here step.deed) ≡ Ok e
@@ -37,12 +34,7 @@ pub passes_on : (here : Situation) (step : Step) (steps : List Step) (e : Effect
 passes_on here step steps e total does so_far =
     sym (ap (λ (a : Result Effect Case). or_first step a (λ e. first_refused (after here e (ends_of e)) steps)) does) ∙ so_far
 
--- ---- what a step asks for is in range, and so is what holds behind it
-
--- an effect of a step that no case refuses
-pub record FitsAt (here : Situation) (e : Effect) : Type 0 where
-  pub good : IsEffect e
-  pub behind : IsSituation (after here e (ends_of e))
+-- ---- what holds behind a step is in range
 
 same_ok : (d e : Effect) → ◌≡◌ {A = Result Effect Case} (Ok d) (Ok e) → d ≡ e
 same_ok d e h = cc
@@ -56,24 +48,11 @@ asked_fine None (Some d) e h = (refl, ap Some (same_ok d e h))
 asked_fine (Some case) o e h = absurd (no_ok case e h)
 
 pub fit : (here : Situation) (deed : Deed) (e : Effect) → IsSituation here → HasScalars deed → DeedHasText deed
-    → asked (refusal_of here deed) (effect_of here deed) ≡ Ok e → FitsAt here e
+    → asked (refusal_of here deed) (effect_of here deed) ≡ Ok e → IsSituation (after here e (ends_of e))
 fit here deed e is scalars worded does =
     let h = asked_fine (refusal_of here deed) (effect_of here deed) e does in
-    let ok = fit_of (effect_of here deed) e h.1 (answered here deed is scalars worded h.0) in record {
-      good = ok.good;
-      behind = subst IsSituation (sym (after_points here e ok.ends)) (kept here e (points_of e) is ok.good ok.within);
-    }
-
--- what is found of a step that is neither a definition nor a contour
-found_is : (here : Situation) (deed : Deed) (e : Effect) → IsSituation here → HasScalars deed → DeedHasText deed → IsNoContour deed → IsNoDefinition deed
-    → asked (refusal_of here deed) (effect_of here deed) ≡ Ok e → SetsOrMoves e × IsEffect e
-found_is here deed e is scalars worded uncut none does =
-    (is_plain here deed e uncut none (asked_fine (refusal_of here deed) (effect_of here deed) e does).1, (fit here deed e is scalars worded does).good)
-
-pub found_plain : (here : Situation) (deed : Deed) (r : Result Effect Case) → IsSituation here → HasScalars deed → DeedHasText deed → IsNoContour deed → IsNoDefinition deed
-    → r ≡ asked (refusal_of here deed) (effect_of here deed) → IfOk r SetsOrMoves × IfOk r IsEffect
-found_plain here deed (Ok e) is scalars worded uncut none same = found_is here deed e is scalars worded uncut none (sym same)
-found_plain here deed (Err case) is scalars worded uncut none same = (tt, tt)
+    let ok = fit_of (effect_of here deed) e h.1 (answered here deed is scalars worded h.0) in
+    subst IsSituation (sym (after_points here e ok.ends)) (kept here e (points_of e) is ok.good ok.within)
 
 -- ---- runs
 

@@ -1,5 +1,5 @@
--- The records of steps before their arcs are divided: a contour round a circle has no vertices yet.
-use Rattle.std.specs.Prelude.{ℕ, ◌-◌, nat_lt, ℤ, Bool, true, false, List, [], ◌∷◌, ◌++◌, length, map, Option, Some, None, Result, Ok, Err, if◌then◌else◌}
+-- What steps write before their arcs are divided: a contour round a circle has no vertices yet.
+use Rattle.std.specs.Prelude.{◌≡◌, ℕ, ◌+◌, ◌-◌, nat_lt, sum_by, IfSome, ℤ, Bool, true, false, List, [], ◌∷◌, ◌++◌, length, map, Option, Some, None, Result, Ok, Err, if◌then◌else◌}
 use Rattle.apt_plane.specs.declared.figures.Pt.{Pt}
 use Rattle.apt_words.specs.declared.Case.{Case}
 use Rattle.apt_words.specs.declared.Case.TheVariants as cases
@@ -18,8 +18,9 @@ use Rattle.apt_records.specs.Vertices.{at_height}
 use Rattle.apt_meaning.specs.Cuts.{arc_of, end_point, motions_of}
 use Rattle.apt_meaning.specs.Effects.{effect_of}
 use Rattle.apt_meaning.specs.Refusals.{refusal_of}
-use Rattle.apt_meaning.specs.Records.{records_of, after}
+use Rattle.apt_meaning.specs.Records.{records_of, with_statement, after}
 use Rattle.apt_meaning.specs.Compiled.{ends_of, asked, refused_at, most_points}
+use Rattle.apt_motion.specs.Acts.{Writing, Nothing, Says, Goes, Cuts, contour_to}
 
 -- ---- what a step leaves to be divided
 
@@ -60,6 +61,20 @@ rounds_of (effects.Sets change) = []
 rounds_of (effects.Moves reach to) = []
 rounds_of (effects.Cuts m legs) = rounds_along m.start.z (motions_of m legs)
 
+-- ---- what is taken down
+
+abbrev pub records_by : Step → Writing → List Record
+records_by step Nothing = []
+records_by step (Says note) = with_statement step (lines.Note note ∷ [])
+records_by step (Goes reach to) = with_statement step (lines.Point reach to ∷ [])
+records_by step (Cuts m ends) = records_of step (contour_to m ends) (drawn (contour_to m ends))
+
+abbrev pub rounds_for : Writing → List ArcAt
+rounds_for Nothing = []
+rounds_for (Says note) = []
+rounds_for (Goes reach to) = []
+rounds_for (Cuts m ends) = rounds_of (contour_to m ends)
+
 -- ---- the draft of steps
 
 -- the records of all steps up to the first that a case refuses, their arcs in order, and that refusal
@@ -83,7 +98,7 @@ draft_from here [] = blank None
 draft_from here (step ∷ steps) =
     or_stopped step (asked (refusal_of here step.deed) (effect_of here step.deed)) (λ e. draft_from (after here e (ends_of e)) steps)
 
--- ---- too many vertices
+-- ---- how many vertices there are
 
 -- the vertices of a divided arc, and their number
 abbrev pub vertices_at : ArcAt → List Position
@@ -103,12 +118,20 @@ is_open (lines.Contour []) = true
 is_open (lines.Contour (p ∷ ps)) = false
 
 abbrev pub known : Record → ℕ
-known (lines.Statement line step) = 0
-known (lines.Note note) = 0
-known (lines.Drive surface side sense) = 0
-known (lines.Check surface how) = 0
-known (lines.Point reach to) = 0
 known (lines.Contour vertices) = length vertices
+known _ = 0
+
+-- beside these records a program may have so many vertices more, where it may have theirs
+abbrev pub HasRoom : List Record → Option ℕ → Type 0
+HasRoom rs room = IfSome room (λ left. sum_by known rs + left ≡ most_points)
+
+-- what a step writes goes behind the records and the arcs before, with the room that is left then
+pub record IsTakenDown (before now : List Record) (first later : List ArcAt) (beside left : Option ℕ) (step : Step) (w : Writing) : Type 0 where
+  pub records : now ≡ before ++ records_by step w
+  pub rounds : later ≡ first ++ rounds_for w
+  pub room : HasRoom before beside → HasRoom now left
+
+-- ---- too many vertices
 
 abbrev pub first_or_none : List ℕ → ℕ
 first_or_none [] = 0
@@ -131,11 +154,7 @@ Mark = ℕ × ℕ
 
 abbrev pub mark_at : Record → Mark → Mark
 mark_at (lines.Statement line step) mark = (line, step)
-mark_at (lines.Note note) mark = mark
-mark_at (lines.Drive surface side sense) mark = mark
-mark_at (lines.Check surface how) mark = mark
-mark_at (lines.Point reach to) mark = mark
-mark_at (lines.Contour vertices) mark = mark
+mark_at _ mark = mark
 
 abbrev pub overfull : Mark → Refusal
 overfull mark = record { line = mark.0; step = mark.1; case = cases.TooManyPoints }

@@ -5,7 +5,7 @@ ghost use Rattle.apt_meaning.specs.Compiled.{most_points};
 ghost use Rattle.apt_motion.specs.Drafts as drafts;
 
 use crate::arcs::Round;
-use crate::drafts::Draft;
+use crate::drafts::{Draft, MOST_POINTS, known};
 use crate::filling::is_open;
 use apt_arc::{bound, count};
 use apt_records::Record;
@@ -16,9 +16,6 @@ use std::collections::VecDeque;
 use std::marker::Model;
 use std::thread::Threads;
 
-/// The contours of a program have so many vertices at most.
-const MOST_POINTS: u64 = 500_000;
-
 /// How many arcs are counted at once.
 const GROUP: usize = 4096;
 
@@ -28,6 +25,7 @@ pub(crate) fn past_limit(
     alloc: Global,
     draft: &Draft,
 ) -> Result<Option<Refusal>, AllocError>
+    requires { drafts.HasRoom draft.now.records.items draft.now.room }
     ensures { IfOk result (λ past. past ≡ drafts.past_limit draft.now.records.items draft.now.rounds.items) }
 {
     if are_few(draft) {
@@ -48,29 +46,17 @@ pub(crate) fn past_limit(
 }
 
 /// Whether there is room for all vertices, also if each arc had as many as its bound: then no arc is to be counted.
-
 fn are_few(draft: &Draft) -> bool
+    requires { drafts.HasRoom draft.now.records.items draft.now.room }
     ensures { IsTrue result → drafts.past_limit draft.now.records.items draft.now.rounds.items ≡ None }
 {
-    match room_beside(&draft.records) {
+    match draft.room {
         Some(room) => have_room(&draft.rounds, room),
         None => false,
     }
 }
 
-/// How many vertices more a program may have than those that its records have.
-fn room_beside(records: &[Record]) -> Option<u64>
-    ensures { IfSome result (λ room. sum_by drafts.known records.now + room ≡ most_points) }
-{
-    let mut room = MOST_POINTS;
-    'records: for record in records {
-        room = room.checked_sub(known(record))?;
-    }
-    Some(room)
-}
-
 /// Whether the bounds of arcs are together at most so many.
-
 fn have_room(rounds: &[Round], room: u64) -> bool
     ensures { IsTrue result → sum_by drafts.chords_of rounds.now ≤ room }
 {
@@ -155,7 +141,7 @@ impl<'a> Sizes<'a> {
         ensures left { IfOk result (λ _. self.new ≡ drafts.behind_first self.old) }
     {
         if self.group.is_empty() {
-            let (group, behind) = counted(rt, alloc, self.rounds)?;
+            let (group, behind) = next_group(rt, alloc, self.rounds)?;
             self.group = group;
             self.rounds = behind;
         }
@@ -165,7 +151,7 @@ impl<'a> Sizes<'a> {
 
 /// The numbers of the next group, and the arcs behind it.
 #[tactic(auto, using(crate::proofs::Divided::counted_parts, crate::proofs::Divided::none_counted))]
-fn counted<'a>(
+fn next_group<'a>(
     rt: &(impl Threads + Sync),
     alloc: Global,
     rounds: &'a [Round],
@@ -176,16 +162,6 @@ fn counted<'a>(
     let (group, behind) = rounds.split_at(rounds.len().min(GROUP));
     let numbers = count_each(rt, alloc, group)?;
     Ok((VecDeque::from_vec(numbers), behind))
-}
-
-/// The vertices that a record has.
-fn known(r: &Record) -> u64
-    ensures { result ≡ drafts.known r.now }
-{
-    match r {
-        Record::Contour(vertices) => vertices.all().len() as u64,
-        _ => 0,
-    }
 }
 
 /// The numbers of the vertices of arcs, counted by as many threads as there are processors.

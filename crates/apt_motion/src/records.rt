@@ -1,30 +1,26 @@
-//! The records of effects that define nothing, and what holds behind them.
+//! The records of steps, as a draft takes them down.
 
 ghost use Rattle.std.specs.Prelude.{◌≡◌, ◌≤◌, ◌+◌, ◌++◌, [], ◌∷◌, map, vec_len, vec_capacity, OnOk};
 ghost use Rattle.apt_words.specs.Rows.{NoneHolds};
 ghost use Rattle.apt_plane.specs.Ranges.{IsPoint};
+ghost use Rattle.apt_stop.specs.declared.legs.Legs.TheVariants as legs;
 ghost use Rattle.apt_records.specs.declared.record.Record.TheVariants as lines;
-ghost use Rattle.apt_meaning.specs.Compiled as compiled;
-ghost use Rattle.apt_meaning.specs.Motions.{course_of, onward};
+ghost use Rattle.apt_meaning.specs.Motions.{onward};
 ghost use Rattle.apt_meaning.specs.Cuts.{arc_of, end_point};
-ghost use Rattle.apt_meaning.specs.Ranges.{IsSituation, IsEffect, IsMotion};
+ghost use Rattle.apt_meaning.specs.Ranges.{IsMotion};
 ghost use Rattle.apt_meaning.specs.Refusals.{cut_cases, motion_cases};
-ghost use Rattle.apt_stop.specs.Legs.{ends_of, last_end, AreEnds};
 ghost use Rattle.apt_meaning.specs.Records as writing;
-ghost use Rattle.apt_meaning.specs.declared.effect.Effect.TheVariants as effects;
-ghost use Rattle.apt_motion.specs.Drafts.{drawn, drawn_on, rounds_along, rounds_by, rounds_of};
-ghost use Rattle.apt_motion.specs.Finding.{SetsOrMoves};
+ghost use Rattle.apt_motion.specs.Acts.{AreLegs, contour_to, legs_to};
+ghost use Rattle.apt_motion.specs.Drafts.{HasRoom, drawn, drawn_on, rounds_along, rounds_by, rounds_of};
 
-use crate::drafts::{Draft, draw};
-use apt_meaning::{Change, Effect, Motion, Situation};
+use crate::acts::Pen;
+use crate::drafts::{Draft, MOST_RECORDS, draw, room_behind};
+use apt_meaning::Motion;
 use apt_plane::Pt;
-use apt_records::Record;
-use apt_stop::{Ends, Legs};
+use apt_records::{Note, Position, Reach, Record};
+use apt_stop::Ends;
 use apt_words::Step;
-use std::alloc::{AllocError, Global};
-
-/// A contour has so many records, and no step has more.
-const MOST_RECORDS: usize = 5;
+use std::alloc::AllocError;
 
 /// Makes room for the records of a step.
 fn make_room(records: &mut Vec<Record>) -> Result<(), AllocError>
@@ -72,7 +68,7 @@ fn begin_cut(records: &mut Vec<Record>, step: &Step, motion: &Motion)
 
 /// The record of a leg that no case refuses; its arc goes behind the others.
 #[inline(always)]
-fn write_leg(alloc: Global, draft: &mut Draft, motion: &Motion, end: Pt) -> Result<(), AllocError>
+fn write_leg(draft: &mut Draft, motion: &Motion, end: Pt) -> Result<(), AllocError>
     requires room { vec_len draft.old.records + 1 ≤ vec_capacity draft.old.records }
     requires motion { IsMotion motion.now }
     requires none { NoneHolds (motion_cases motion.now) }
@@ -80,88 +76,39 @@ fn write_leg(alloc: Global, draft: &mut Draft, motion: &Motion, end: Pt) -> Resu
     ensures records { OnOk result (draft.new.records.items ≡ draft.old.records.items ++ writing.cut_record motion.now.start.z (drawn_on motion.now) ∷ []) }
     ensures rounds { OnOk result (draft.new.rounds.items ≡ draft.old.rounds.items ++ rounds_by motion.now.start.z (arc_of motion.now)) }
     ensures len { OnOk result (vec_len draft.new.records ≡ vec_len draft.old.records + 1) }
+    ensures room { OnOk result (HasRoom draft.old.records.items draft.old.room → HasRoom draft.new.records.items draft.new.room) }
     ensures capacity { OnOk result (vec_capacity draft.new.records ≡ vec_capacity draft.old.records) }
 {
-    let vertices = draw(alloc, &mut draft.rounds, motion, end)?;
-    draft.records.push_reserved(Record::Contour(vertices));
-    Ok(())
-}
-
-/// Then holds what holds behind what a step asks for that is neither a definition nor a contour.
-pub(crate) fn pass_by(here: &mut Situation, effect: Effect)
-    requires situation { IsSituation here.old }
-    requires effect { IsEffect effect }
-    requires plain { SetsOrMoves effect }
-    ensures { here.new ≡ writing.after here.old effect (compiled.ends_of effect) }
-{
-    match effect {
-        Effect::Sets(change) => here.settings.change(&change),
-        Effect::Moves(reach, to) => here.go_to(reach, to),
-        Effect::Defines(..) | Effect::Cuts(..) => unreachable!(),
-    }
-}
-
-/// The records of what a step asks for that is neither a definition nor a contour, and so has no vertices; then holds
-/// what holds behind it.
-#[inline(always)]
-pub(crate) fn take(
-    records: &mut Vec<Record>,
-    here: &mut Situation,
-    step: &Step,
-    effect: Effect,
-) -> Result<(), AllocError>
-    requires situation { IsSituation here.old }
-    requires effect { IsEffect effect }
-    requires plain { SetsOrMoves effect }
-    ensures after { OnOk result (here.new ≡ writing.after here.old effect (compiled.ends_of effect)) }
-    ensures records { OnOk result (records.new.items ≡ records.old.items ++ writing.records_of step.now effect (drawn effect)) }
-{
-    make_room(records)?;
-    match effect {
-        Effect::Sets(change) => {
-            here.settings.change(&change);
-            if let Change::Said(note) = change {
-                put(records, step, Record::Note(note));
-            }
-        }
-        Effect::Moves(reach, to) => {
-            put(records, step, Record::Point(reach, to));
-            here.go_to(reach, to);
-        }
-        Effect::Defines(..) | Effect::Cuts(..) => unreachable!(),
-    }
+    let record = Record::Contour(draw(draft.alloc, &mut draft.rounds, motion, end)?);
+    draft.room = room_behind(draft.room, &record);
+    draft.records.push_reserved(record);
     Ok(())
 }
 
 /// The records of two legs that no case refuses.
 #[inline(never)]
 #[tactic(auto, using(apt_meaning::proofs::Contours::Legs::first_free))]
-fn write_two(
-    alloc: Global,
-    draft: &mut Draft,
-    motion: &Motion,
-    first: Pt,
-    second: Pt,
-) -> Result<(), AllocError>
+fn write_two(draft: &mut Draft, motion: &Motion, first: Pt, second: Pt) -> Result<(), AllocError>
     requires room { vec_len draft.old.records + 2 ≤ vec_capacity draft.old.records }
     requires motion { IsMotion motion.now }
-    requires none { NoneHolds (cut_cases motion.now Legs.Two) }
+    requires none { NoneHolds (cut_cases motion.now legs.Two) }
     requires point { IsPoint first }
     requires first { first ≡ end_point motion.now }
     requires second { second ≡ end_point (onward motion.now (end_point motion.now)) }
     ensures records { OnOk result (draft.new.records.items ≡ draft.old.records.items ++ writing.cut_record motion.now.start.z (drawn_on motion.now) ∷ writing.cut_record motion.now.start.z (drawn_on (onward motion.now (end_point motion.now))) ∷ []) }
     ensures rounds { OnOk result (draft.new.rounds.items ≡ draft.old.rounds.items ++ rounds_along motion.now.start.z (motion.now ∷ onward motion.now (end_point motion.now) ∷ [])) }
+    ensures room { OnOk result (HasRoom draft.old.records.items draft.old.room → HasRoom draft.new.records.items draft.new.room) }
 {
-    write_leg(alloc, draft, motion, first)?;
+    write_leg(draft, motion, first)?;
     let next = next_leg(motion, first);
-    write_leg(alloc, draft, &next, second)
+    write_leg(draft, &next, second)
 }
 
 /// The second leg of a contour.
 #[tactic(auto, using(crate::proofs::Legs::next_is))]
 fn next_leg(motion: &Motion, first: Pt) -> Motion
     requires motion { IsMotion motion.now }
-    requires none { NoneHolds (cut_cases motion.now Legs.Two) }
+    requires none { NoneHolds (cut_cases motion.now legs.Two) }
     requires point { IsPoint first }
     requires first { first ≡ end_point motion.now }
     ensures value { result ≡ onward motion.now (end_point motion.now) }
@@ -173,50 +120,42 @@ fn next_leg(motion: &Motion, first: Pt) -> Motion
 
 /// The records of the legs of a contour that no case refuses.
 #[inline(always)]
-fn write_legs(
-    alloc: Global,
-    draft: &mut Draft,
-    motion: &Motion,
-    legs: Legs,
-    ends: Ends,
-) -> Result<(), AllocError>
+fn write_legs(draft: &mut Draft, motion: &Motion, ends: Ends) -> Result<(), AllocError>
     requires room { vec_len draft.old.records + 2 ≤ vec_capacity draft.old.records }
-    requires motion { IsMotion motion.now }
-    requires none { NoneHolds (cut_cases motion.now legs) }
-    requires ends { ends ≡ ends_of legs (course_of motion.now) }
-    requires points { AreEnds ends }
-    ensures records { OnOk result (draft.new.records.items ≡ draft.old.records.items ++ map (writing.cut_record motion.now.start.z) (drawn (effects.Cuts motion.now legs))) }
-    ensures rounds { OnOk result (draft.new.rounds.items ≡ draft.old.rounds.items ++ rounds_of (effects.Cuts motion.now legs)) }
+    requires legs { AreLegs motion.now (legs_to ends.second) ends }
+    ensures records { OnOk result (draft.new.records.items ≡ draft.old.records.items ++ map (writing.cut_record motion.now.start.z) (drawn (contour_to motion.now ends))) }
+    ensures rounds { OnOk result (draft.new.rounds.items ≡ draft.old.rounds.items ++ rounds_of (contour_to motion.now ends)) }
+    ensures room { OnOk result (HasRoom draft.old.records.items draft.old.room → HasRoom draft.new.records.items draft.new.room) }
 {
-    match (legs, ends.second) {
-        (Legs::One, _) => write_leg(alloc, draft, motion, ends.first),
-        (Legs::Two, Some(second)) => write_two(alloc, draft, motion, ends.first, second),
-        (Legs::Two, None) => unreachable!(),
+    match ends.second {
+        None => write_leg(draft, motion, ends.first),
+        Some(second) => write_two(draft, motion, ends.first, second),
     }
 }
 
-/// Draws a contour that no case refuses; then holds what holds behind it.
-#[tactic(auto, using(crate::proofs::Legs::drawn_behind))]
-pub(crate) fn take_cut(
-    alloc: Global,
-    draft: &mut Draft,
-    here: &mut Situation,
-    step: &Step,
-    motion: &Motion,
-    legs: Legs,
-    ends: Ends,
-) -> Result<(), AllocError>
-    requires motion { IsMotion motion.now }
-    requires none { NoneHolds (cut_cases motion.now legs) }
-    requires ends { ends ≡ ends_of legs (course_of motion.now) }
-    requires points { AreEnds ends }
-    ensures after { OnOk result (here.new ≡ writing.cut_at here.old motion.now (last_end ends)) }
-    ensures records { OnOk result (draft.new.records.items ≡ draft.old.records.items ++ writing.records_of step.now (effects.Cuts motion.now legs) (drawn (effects.Cuts motion.now legs))) }
-    ensures rounds { OnOk result (draft.new.rounds.items ≡ draft.old.rounds.items ++ rounds_of (effects.Cuts motion.now legs)) }
-{
-    make_room(&mut draft.records)?;
-    begin_cut(&mut draft.records, step, motion);
-    write_legs(alloc, draft, motion, legs, ends)?;
-    here.cut_to(motion, ends.last());
-    Ok(())
+impl Pen for Draft {
+    ghost use Rattle.apt_motion.specs.Drafts.{IsTakenDown};
+
+    ghost takes = { λ before now step written. IsTakenDown before.records.items now.records.items before.rounds.items now.rounds.items before.room now.room step written };
+
+    #[inline(always)]
+    fn note(&mut self, step: &Step, note: Note) -> Result<(), AllocError> {
+        make_room(&mut self.records)?;
+        put(&mut self.records, step, Record::Note(note));
+        Ok(())
+    }
+
+    #[inline(always)]
+    fn point(&mut self, step: &Step, reach: Reach, to: Position) -> Result<(), AllocError> {
+        make_room(&mut self.records)?;
+        put(&mut self.records, step, Record::Point(reach, to));
+        Ok(())
+    }
+
+    fn contour(&mut self, step: &Step, motion: &Motion, ends: Ends) -> Result<(), AllocError> {
+        make_room(&mut self.records)?;
+        begin_cut(&mut self.records, step, motion);
+        write_legs(self, motion, ends)?;
+        Ok(())
+    }
 }

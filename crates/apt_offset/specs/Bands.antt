@@ -1,7 +1,7 @@
 -- What a tolerance band says of the cutter. A whole number is a distance to the left of a line, or from a circle's centre.
 use Rattle.std.specs.Prelude.{ℤ, pos, neg_ℤ, ◌-ℤ◌, ◌≤ℤ◌, unsigned_abs, ◌⊎◌}
 use Rattle.apt_num.specs.declared.Sign.{Sign}
-use Rattle.apt_num.specs.declared.Sign.TheVariants as signs
+use Rattle.apt_num.specs.declared.Sign.TheVariants.{Plus as LeftOrInside, Zero as Upon, Minus as RightOrOutside}
 use Rattle.apt_plane.specs.declared.figures.Surface.{Surface}
 use Rattle.apt_plane.specs.declared.figures.Surface.TheVariants as surfaces
 use Rattle.apt_plane.specs.declared.figures.Band.{Band}
@@ -14,12 +14,12 @@ IsInBand band x = (band.lo ≤ℤ x) × (x ≤ℤ band.hi)
 
 -- how far the cutter's centre is off the surface, to the side of its place; on the surface either side counts
 abbrev pub off_surface : Surface → Sign → ℤ → ℤ
-off_surface (surfaces.Line l) signs.Plus x = x
-off_surface (surfaces.Line l) signs.Minus x = neg_ℤ x
-off_surface (surfaces.Line l) signs.Zero x = pos (unsigned_abs x)
-off_surface (surfaces.Circ c) signs.Plus x = c.r -ℤ x
-off_surface (surfaces.Circ c) signs.Minus x = x -ℤ c.r
-off_surface (surfaces.Circ c) signs.Zero x = pos (unsigned_abs (c.r -ℤ x))
+off_surface (surfaces.Line l) LeftOrInside x = x
+off_surface (surfaces.Line l) RightOrOutside x = neg_ℤ x
+off_surface (surfaces.Line l) Upon x = pos (unsigned_abs x)
+off_surface (surfaces.Circ c) LeftOrInside x = c.r -ℤ x
+off_surface (surfaces.Circ c) RightOrOutside x = x -ℤ c.r
+off_surface (surfaces.Circ c) Upon x = pos (unsigned_abs (c.r -ℤ x))
 
 -- an edge is at most o off the surface, and at most i in it
 abbrev pub IsEdgeWithin : ℤ → ℤ → ℤ → Type 0
@@ -27,9 +27,9 @@ IsEdgeWithin i o edge = (neg_ℤ i ≤ℤ edge) × (edge ≤ℤ o)
 
 -- the edge of a cutter of radius r is at most o off the surface and at most i in it; on the surface its centre is at most the greater of both away
 abbrev pub HasEdgeWithin : Surface → Sign → ℤ → ℤ → ℤ → ℤ → Type 0
-HasEdgeWithin surface signs.Plus r i o x = IsEdgeWithin i o (off_surface surface signs.Plus x -ℤ r)
-HasEdgeWithin surface signs.Minus r i o x = IsEdgeWithin i o (off_surface surface signs.Minus x -ℤ r)
-HasEdgeWithin surface signs.Zero r i o x = (off_surface surface signs.Zero x ≤ℤ i) ⊎ (off_surface surface signs.Zero x ≤ℤ o)
+HasEdgeWithin surface LeftOrInside r i o x = IsEdgeWithin i o (off_surface surface LeftOrInside x -ℤ r)
+HasEdgeWithin surface RightOrOutside r i o x = IsEdgeWithin i o (off_surface surface RightOrOutside x -ℤ r)
+HasEdgeWithin surface Upon r i o x = (off_surface surface Upon x ≤ℤ i) ⊎ (off_surface surface Upon x ≤ℤ o)
 
 -- the distance at which a target runs
 abbrev pub reach : Target → ℤ

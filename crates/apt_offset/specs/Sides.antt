@@ -1,7 +1,7 @@
--- The place of the cutter at a surface: left of a line or inside a circle (Plus), right or outside (Minus), or on it (Zero).
+-- The place of the cutter at a surface: left of a line or inside a circle, right or outside, or on it.
 use Rattle.std.specs.Prelude.{◌≡◌, ℕ, ◌*◌, nat_le, Bool, false, ℤ, pos, ◌-ℤ◌, ◌*ℤ◌, unsigned_abs, max, if◌then◌else◌}
 use Rattle.apt_num.specs.declared.Sign.{Sign}
-use Rattle.apt_num.specs.declared.Sign.TheVariants as signs
+use Rattle.apt_num.specs.declared.Sign.TheVariants.{Plus as LeftOrInside, Zero as Upon, Minus as RightOrOutside}
 use Rattle.apt_num.specs.Sign.{sign_of}
 use Rattle.apt_words.specs.declared.Side.{Side}
 use Rattle.apt_words.specs.declared.Side.TheVariants as sides
@@ -15,31 +15,31 @@ use Rattle.apt_plane.specs.Vectors.{displacement, cross, length_squared}
 use Rattle.apt_offset.specs.Turns.{opposite, is_zero}
 
 abbrev pub times : Sign → Sign → Sign
-times signs.Plus s = s
-times signs.Zero s = signs.Zero
-times signs.Minus s = opposite s
+times LeftOrInside s = s
+times Upon s = Upon
+times RightOrOutside s = opposite s
 
 -- the place at the drive surface: a cutter on the left of a motion in the sense of a line is on the line's left, and of an anticlockwise motion inside the circle
 abbrev pub side_at_drive : Side → ℤ → Sign
 side_at_drive sides.Left sense = sign_of sense
 side_at_drive sides.Right sense = opposite (sign_of sense)
-side_at_drive sides.On sense = signs.Zero
+side_at_drive sides.On sense = Upon
 
 -- the place of a point at a surface
 abbrev pub side_at : Surface → Pt → Sign
 side_at (surfaces.Line l) p = sign_of (cross l.dir (displacement l.base p))
 side_at (surfaces.Circ c) p = sign_of ((c.r *ℤ c.r) -ℤ pos (length_squared (displacement c.c p)))
 
--- Plus in place of Zero
+-- the left where a place is neither
 abbrev pub side_or_left : Sign → Sign
-side_or_left signs.Minus = signs.Minus
-side_or_left signs.Zero = signs.Plus
-side_or_left signs.Plus = signs.Plus
+side_or_left RightOrOutside = RightOrOutside
+side_or_left Upon = LeftOrInside
+side_or_left LeftOrInside = LeftOrInside
 
 abbrev pub inside_or_outside : Sign → Sign
-inside_or_outside signs.Minus = signs.Minus
-inside_or_outside signs.Zero = signs.Minus
-inside_or_outside signs.Plus = signs.Plus
+inside_or_outside RightOrOutside = RightOrOutside
+inside_or_outside Upon = RightOrOutside
+inside_or_outside LeftOrInside = LeftOrInside
 
 abbrev pub greater_radius : Circ → Circ → ℕ
 greater_radius c d = max (unsigned_abs c.r) (unsigned_abs d.r)
@@ -50,8 +50,8 @@ touch_outside c d = nat_le (greater_radius c d * greater_radius c d) (length_squ
 
 -- the place at a check surface that is touched, behind the place at the drive surface
 abbrev pub side_at_tangency : Surface → Surface → Sign → Sign
-side_at_tangency drive check signs.Zero = signs.Zero
-side_at_tangency (surfaces.Line l) (surfaces.Line m) v = signs.Zero
+side_at_tangency drive check Upon = Upon
+side_at_tangency (surfaces.Line l) (surfaces.Line m) v = Upon
 side_at_tangency (surfaces.Line l) (surfaces.Circ c) v = inside_or_outside (times v (sign_of (cross l.dir (displacement l.base c.c))))
 side_at_tangency (surfaces.Circ c) (surfaces.Line l) v = times (side_or_left (sign_of (cross l.dir (displacement l.base c.c)))) v
 side_at_tangency (surfaces.Circ c) (surfaces.Circ d) v = if touch_outside c d then opposite v else v
@@ -60,7 +60,7 @@ side_at_tangency (surfaces.Circ c) (surfaces.Circ d) v = if touch_outside c d th
 abbrev pub side_at_check : Surface → Stop → Pt → Surface → Sign → Sign
 side_at_check check stops.To start drive v = side_at check start
 side_at_check check stops.Past start drive v = opposite (side_at check start)
-side_at_check check stops.On start drive v = signs.Zero
+side_at_check check stops.On start drive v = Upon
 side_at_check check stops.Tanto start drive v = side_at_tangency drive check v
 
 -- TO and PAST need a start that is not on the check surface

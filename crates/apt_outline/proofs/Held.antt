@@ -49,14 +49,8 @@ says_held here (sayings.Diameter v) vertices = refl
 says_held here (sayings.Inward v) vertices = refl
 says_held here (sayings.Outward v) vertices = refl
 says_held here (sayings.Feed v) vertices = refl
-says_held here (sayings.Clockwise n) vertices = refl
-says_held here (sayings.Anticlockwise n) vertices = refl
-says_held here sayings.SpindleOff vertices = refl
-says_held here (sayings.Coolant cool) vertices = refl
-says_held here (sayings.Tool n) vertices = refl
+says_held here (sayings.Do command) vertices = refl
 says_held here sayings.Rapid vertices = refl
-says_held here sayings.Stop vertices = refl
-says_held here sayings.OptStop vertices = refl
 says_held here sayings.End vertices = refl
 says_held here sayings.Fini vertices = refl
 
@@ -88,9 +82,9 @@ ask_held here (Says saying) vertices = says_held here saying vertices
 ask_held here (Sets side) vertices = refl
 ask_held here (Defines name form) vertices = defined_held here name form vertices
 ask_held here (Goes route) vertices = goes_held here route vertices
-ask_held here (Cuts side go drive how check n) vertices =
-    let ask = Cuts side go drive how check n in
-    let m = motion_at here side go drive how check in
+ask_held here (Cuts contour n) vertices =
+    let ask = Cuts contour n in
+    let m = motion_at here contour in
     if_counted (legs_by (whole n)) (λ legs. cuts legs m) (IsHeld here ask vertices) (λ legs. elim m as (λ o. IfSome (cuts legs o) (IsHeld here ask vertices)) [ None ↦ tt | Some found ↦ refl ])
 ask_held here Nothing vertices = refl
 
@@ -129,7 +123,7 @@ ask_defined here (Says saying) e asked = tt
 ask_defined here (Sets side) e asked = tt
 ask_defined here (Defines name form) e asked = defined_by_step here name form e asked
 ask_defined here (Goes route) e asked = tt
-ask_defined here (Cuts side go drive how check n) e asked = tt
+ask_defined here (Cuts contour n) e asked = tt
 ask_defined here Nothing e asked = tt
 
 all_defined : (here : Situation) (steps : List Step) → first_refused here steps ≡ None → AreDefined (held_of here) steps

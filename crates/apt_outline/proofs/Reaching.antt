@@ -17,7 +17,7 @@ use Rattle.apt_meaning.specs.declared.effect.Effect.{Effect}
 use Rattle.apt_meaning.specs.declared.effect.Effect.TheVariants as effects
 use Rattle.apt_meaning.specs.Effects.{effect_of}
 use Rattle.apt_meaning.specs.Situations.{first_situation}
-use Rattle.apt_meaning.specs.Paths.{Saying, Contour, Due, nothing_said, with_record, said_behind, first_leg, next_leg, radius_by, counted, contours_behind, contours_of}
+use Rattle.apt_meaning.specs.Paths.{Told, Contour, Due, nothing_said, with_record, said_behind, first_leg, next_leg, radius_by, counted, contours_behind, contours_of}
 use Rattle.apt_meaning.specs.Records.{FollowsAs, HasAny, Follows, IsAsSaid, records_of, cut_record, after, legs_from, contours_by}
 use Rattle.apt_meaning.proofs.Said.{IsMotionOf, said_by}
 use Rattle.apt_meaning.proofs.Walks.Alone.{says_on, nothing_tells}
@@ -36,10 +36,10 @@ record_is rs i r are h e = rw e (record_at rs i r are h)
 
 -- ---- the cutter, as all that was said has it
 
-abbrev cutter_of : Saying → Cutter
+abbrev cutter_of : Told → Cutter
 cutter_of s = record { diameter = s.diameter; intol = s.intol }
 
-cutter_with : (s : Saying) (r : Record) → cutter_behind (cutter_of s) r ≡ cutter_of (with_record s r)
+cutter_with : (s : Told) (r : Record) → cutter_behind (cutter_of s) r ≡ cutter_of (with_record s r)
 cutter_with s (records.Statement line step) = refl
 cutter_with s (records.Note (notes.Partno text)) = refl
 cutter_with s (records.Note (notes.Units units)) = refl
@@ -47,12 +47,8 @@ cutter_with s (records.Note (notes.Cutter d)) = refl
 cutter_with s (records.Note (notes.Intol t)) = refl
 cutter_with s (records.Note (notes.Outtol t)) = refl
 cutter_with s (records.Note (notes.Feed f)) = refl
-cutter_with s (records.Note (notes.Spindle turn n)) = refl
-cutter_with s (records.Note (notes.Coolant c)) = refl
-cutter_with s (records.Note (notes.Tool n)) = refl
+cutter_with s (records.Note (notes.Do command)) = refl
 cutter_with s (records.Note notes.Rapid) = refl
-cutter_with s (records.Note notes.Stop) = refl
-cutter_with s (records.Note notes.OptStop) = refl
 cutter_with s (records.Note notes.End) = refl
 cutter_with s (records.Note notes.Fini) = refl
 cutter_with s (records.Drive surface side sense) = refl
@@ -63,7 +59,7 @@ cutter_with s (records.Point ways.Godlta to) = refl
 cutter_with s (records.Point ways.Start to) = refl
 cutter_with s (records.Contour vertices) = refl
 
-reaches_append : (s : Saying) (xs ys : List Record) → reaches_behind (cutter_of s) (xs ++ ys) ≡ reaches_behind (cutter_of s) xs ++ reaches_behind (cutter_of (said_behind s xs)) ys
+reaches_append : (s : Told) (xs ys : List Record) → reaches_behind (cutter_of s) (xs ++ ys) ≡ reaches_behind (cutter_of s) xs ++ reaches_behind (cutter_of (said_behind s xs)) ys
 reaches_append s [] ys = refl
 reaches_append s (x ∷ xs) ys =
     let more = ap (λ (k : Cutter). reaches_behind k (xs ++ ys)) (cutter_with s x) ∙ reaches_append (with_record s x) xs ys in
@@ -81,7 +77,7 @@ inner_is here m is =
 abbrev motion_reach : Motion → Reach
 motion_reach m = record { r = m.radius; i = m.inner }
 
-as_said : (s : Saying) (here : Situation) (m : Motion) → IsAsSaid s here → IsMotionOf here m → reach_by (cutter_of s) ≡ motion_reach m
+as_said : (s : Told) (here : Situation) (m : Motion) → IsAsSaid s here → IsMotionOf here m → reach_by (cutter_of s) ≡ motion_reach m
 as_said s here m t is =
     let radius : radius_by s.diameter ≡ m.radius = sym t.radius ∙ sym is.radius in
     let inner : counted s.intol ≡ m.inner = ap counted (sym t.intol) ∙ sym (inner_is here m is) in
@@ -91,7 +87,7 @@ legs_reach : (k : Cutter) (d : Due) (z : ℤ) (cuts : List (List Pt)) → reach_
 legs_reach k d z [] e = refl
 legs_reach k d z (vertices ∷ cuts) e = rw (e, legs_reach k (next_leg d vertices) z cuts e) refl
 
-effect_reaches : (s : Saying) (here : Situation) (step : Step) (e : Effect) (cuts : List (List Pt)) → IsAsSaid s here → effect_of here step.deed ≡ Some e
+effect_reaches : (s : Told) (here : Situation) (step : Step) (e : Effect) (cuts : List (List Pt)) → IsAsSaid s here → effect_of here step.deed ≡ Some e
     → reaches_behind (cutter_of s) (records_of step e cuts) ≡ map reach_of (contours_by e cuts)
 effect_reaches s here step (effects.Defines n f) cuts t asked = refl
 effect_reaches s here step (effects.Sets (changes.Said note)) cuts t asked = refl
@@ -107,7 +103,7 @@ map_append : (cs more : List Contour) → map reach_of cs ++ map reach_of more �
 map_append [] more = refl
 map_append (c ∷ cs) more = ap (λ (rs : List Reach). reach_of c ∷ rs) (map_append cs more)
 
-reaches_walk : (s : Saying) (here : Situation) (steps : List Step) (written : List Record) (behind : Situation) → IsAsSaid s here → FollowsAs HasAny here steps written behind
+reaches_walk : (s : Told) (here : Situation) (steps : List Step) (written : List Record) (behind : Situation) → IsAsSaid s here → FollowsAs HasAny here steps written behind
     → reaches_behind (cutter_of s) written ≡ map reach_of (contours_behind s written)
 reaches_walk s here [] written behind t f = rw f.0 refl
 reaches_walk s here (step ∷ steps) written behind t f =

@@ -130,13 +130,9 @@ fault_in errors.NoMemory = None
 
 -- the causes of a line behind the first
 abbrev pub IsOfLine : OutlineCause → Type 0
-IsOfLine causes.Byte = Unit {0}
 IsOfLine causes.Header = ⊥
-IsOfLine causes.Word = Unit {0}
-IsOfLine causes.Undefined = Unit {0}
-IsOfLine causes.WrongKind = Unit {0}
-IsOfLine causes.Degenerate = Unit {0}
 IsOfLine causes.Empty = ⊥
+IsOfLine _ = Unit {0}
 
 -- the lines of a text of so many at which a cause can stand
 abbrev pub Stands : ℕ → ℕ → OutlineCause → Type 0

@@ -31,6 +31,7 @@ fn define(deed: &Deed, units: Units, table: &mut Table) -> Result<(), AllocError
     match define_as(name, &form, units, table) {
         Ok(()) => Ok(()),
         Err(DefError::NoMemory) => Err(AllocError),
+        // No definition of a part that passes is refused.
         Err(DefError::Case(_)) => unreachable!(),
     }
 }

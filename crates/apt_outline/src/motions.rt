@@ -86,7 +86,7 @@ fn motion_gouge(job: &Job, rho: i64, parts: &[Part]) -> Option<Gouge>
     requires parts { AreParts parts.now }
     ensures { MatchOption result (guards.IsClearPath rho parts.now job.now.points) (guards.IsGougeOfPath rho parts.now job.now.points) }
 {
-    path_gouge(&job.points.vertices, rho, parts)
+    path_gouge(job.points.all(), rho, parts)
 }
 
 /// The first gouge of a path, as that of motion 1.

@@ -19,15 +19,9 @@ TextFault = ℕ × PartCause
 
 -- the labels to which a statement jumps
 abbrev pub jumps : Flow → List (List ℕ)
-jumps Onward = []
-jumps (MacroBegins m ps) = []
-jumps MacroEnds = []
-jumps (Calls m args) = []
-jumps LoopBegins = []
-jumps LoopEnds = []
 jumps (Jumps l) = l ∷ []
 jumps (Branches e a b c) = a ∷ b ∷ c ∷ []
-jumps ProgramEnds = []
+jumps _ = []
 
 -- the labels of the program have each label to which the statement jumps
 abbrev pub has_labels : List Stmt → Stmt → Bool

@@ -18,27 +18,15 @@ use Rattle.apt_shapes.specs.Shapes.{shape}
 
 -- the line of the macro that is open behind a statement
 abbrev pub macro_behind : Option ℕ → ℕ → Flow → Option ℕ
-macro_behind before line Onward = before
 macro_behind before line (MacroBegins m ps) = Some line
 macro_behind before line MacroEnds = None
-macro_behind before line (Calls m args) = before
-macro_behind before line LoopBegins = before
-macro_behind before line LoopEnds = before
-macro_behind before line (Jumps l) = before
-macro_behind before line (Branches e a b c) = before
-macro_behind before line ProgramEnds = before
+macro_behind before line _ = before
 
 -- the line of the loop that is open behind a statement
 abbrev pub loop_behind : Option ℕ → ℕ → Flow → Option ℕ
-loop_behind before line Onward = before
-loop_behind before line (MacroBegins m ps) = before
-loop_behind before line MacroEnds = before
-loop_behind before line (Calls m args) = before
 loop_behind before line LoopBegins = Some line
 loop_behind before line LoopEnds = None
-loop_behind before line (Jumps l) = before
-loop_behind before line (Branches e a b c) = before
-loop_behind before line ProgramEnds = before
+loop_behind before line _ = before
 
 abbrev pub macro_from : Option ℕ → List Stmt → Option ℕ
 macro_from before [] = before
@@ -100,15 +88,11 @@ is_misplaced_heading before _ = false
 
 -- TERMAC outside of a macro; FINI, LOOPST and LOOPND inside of one
 abbrev pub is_out_of_place : Bool → Flow → Bool
-is_out_of_place within Onward = false
-is_out_of_place within (MacroBegins m ps) = false
 is_out_of_place within MacroEnds = not within
-is_out_of_place within (Calls m args) = false
 is_out_of_place within LoopBegins = within
 is_out_of_place within LoopEnds = within
-is_out_of_place within (Jumps l) = false
-is_out_of_place within (Branches e a b c) = false
 is_out_of_place within ProgramEnds = within
+is_out_of_place within _ = false
 
 abbrev pub is_misplaced : List Stmt → Body → Bool
 is_misplaced before body = is_misplaced_heading before body || is_out_of_place (is_some (open_macro before)) (flow_of body)
@@ -123,39 +107,19 @@ is_label_again before (Some l) = is_label before l
 
 -- a macro with the name of another
 abbrev pub is_macro_again : List Stmt → Flow → Bool
-is_macro_again before Onward = false
 is_macro_again before (MacroBegins m ps) = is_macro before m
-is_macro_again before MacroEnds = false
-is_macro_again before (Calls m args) = false
-is_macro_again before LoopBegins = false
-is_macro_again before LoopEnds = false
-is_macro_again before (Jumps l) = false
-is_macro_again before (Branches e a b c) = false
-is_macro_again before ProgramEnds = false
+is_macro_again before _ = false
 
 -- a macro within a macro
 abbrev pub is_in_macro : Bool → Flow → Bool
-is_in_macro within Onward = false
 is_in_macro within (MacroBegins m ps) = within
-is_in_macro within MacroEnds = false
-is_in_macro within (Calls m args) = false
-is_in_macro within LoopBegins = false
-is_in_macro within LoopEnds = false
-is_in_macro within (Jumps l) = false
-is_in_macro within (Branches e a b c) = false
-is_in_macro within ProgramEnds = false
+is_in_macro within _ = false
 
 -- a loop within a loop, or the end of none
 abbrev pub is_out_of_loop : Bool → Flow → Bool
-is_out_of_loop within Onward = false
-is_out_of_loop within (MacroBegins m ps) = false
-is_out_of_loop within MacroEnds = false
-is_out_of_loop within (Calls m args) = false
 is_out_of_loop within LoopBegins = within
 is_out_of_loop within LoopEnds = not within
-is_out_of_loop within (Jumps l) = false
-is_out_of_loop within (Branches e a b c) = false
-is_out_of_loop within ProgramEnds = false
+is_out_of_loop within _ = false
 
 -- ---- the first fault of a statement
 

@@ -32,10 +32,10 @@ pub fn parse(alloc: Global, text: &[u8]) -> Result<Program, ParseError>
     ensures sources { IfOk result (λ p. AreStmts p) }
     ensures same { (other : List ℕ) → SayTheSame text.now other → IsDue fault_in (programs.program_of other) result }
 {
-    parse_all(alloc, text)
+    parse_value(alloc, text)
 }
 
-fn parse_all(alloc: Global, text: &[u8]) -> Result<Program, ParseError>
+fn parse_value(alloc: Global, text: &[u8]) -> Result<Program, ParseError>
     ensures { IsDue fault_in (programs.program_of text.now) result }
 {
     let mut phrases = Phrases::new(text);

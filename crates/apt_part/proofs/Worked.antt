@@ -1,6 +1,7 @@
 -- Small parts, which the checker reads and compiles.
 use Rattle.std.specs.Prelude.{◌≡◌, refl, false, ℕ, ℤ, pos, neg_ℤ, codes, List, [], ◌∷◌, ◌++◌, Result, Ok, Err}
 use Rattle.apt_num.specs.Root.{root}
+use Rattle.apt_words.specs.declared.Command.TheVariants as commands
 use Rattle.apt_words.specs.Vocabulary.{word_of}
 use Rattle.apt_words.specs.declared.Case.{Case}
 use Rattle.apt_words.specs.declared.Case.TheVariants as cases
@@ -177,21 +178,21 @@ unfolding root word_of expression shape by_values executed deed_of trace_from ac
 moves = refl
 
 machine_words : records_of (codes "PARTNO A\nSPINDL/1200\nSPINDL/700,CLW\nSPINDL/70.5,CCLW\nSPINDL/OFF\nCOOLNT/MIST\nCOOLNT/FLOOD\nCOOLNT/OFF\nLOADTL/7\nFINI\n") ≡
-    written (titled ++ note_at 2 (notes.Spindle spins.Cw (pos 1200)) ++ note_at 3 (notes.Spindle spins.Cw (pos 700)) ++ note_at 4 (notes.Spindle spins.Ccw (pos 71)) ++ note_at 5 (notes.Spindle spins.Off (pos 0))
-    ++ note_at 6 (notes.Coolant cools.Mist) ++ note_at 7 (notes.Coolant cools.Flood) ++ note_at 8 (notes.Coolant cools.Off) ++ note_at 9 (notes.Tool (pos 7)) ++ note_at 10 notes.Fini)
+    written (titled ++ note_at 2 (notes.Do (commands.Spindle spins.Cw (pos 1200))) ++ note_at 3 (notes.Do (commands.Spindle spins.Cw (pos 700))) ++ note_at 4 (notes.Do (commands.Spindle spins.Ccw (pos 71))) ++ note_at 5 (notes.Do (commands.Spindle spins.Off (pos 0)))
+    ++ note_at 6 (notes.Do (commands.Coolant cools.Mist)) ++ note_at 7 (notes.Do (commands.Coolant cools.Flood)) ++ note_at 8 (notes.Do (commands.Coolant cools.Off)) ++ note_at 9 (notes.Do (commands.Tool (pos 7))) ++ note_at 10 notes.Fini)
 unfolding root word_of expression shape by_values executed deed_of trace_from action motion_at start_up_at refused_form defined
 machine_words = refl
 
-commands : records_of (codes "PARTNO A\nSTOP\nOPSTOP\nRAPID\nGOTO/0,0\nEND\nFINI\n") ≡
-    written (titled ++ note_at 2 notes.Stop ++ note_at 3 notes.OptStop ++ note_at 4 notes.Rapid ++ reached 5 reaches.Goto (at 0 0 0) ++ note_at 6 notes.End ++ note_at 7 notes.Fini)
+halts : records_of (codes "PARTNO A\nSTOP\nOPSTOP\nRAPID\nGOTO/0,0\nEND\nFINI\n") ≡
+    written (titled ++ note_at 2 (notes.Do commands.Stop) ++ note_at 3 (notes.Do commands.OptStop) ++ note_at 4 notes.Rapid ++ reached 5 reaches.Goto (at 0 0 0) ++ note_at 6 notes.End ++ note_at 7 notes.Fini)
 unfolding root word_of expression shape by_values executed deed_of trace_from action motion_at start_up_at refused_form defined
-commands = refl
+halts = refl
 
 -- the end is given once
-commands_are_acts : acts_of (codes "PARTNO A\nSTOP\nOPSTOP\nRAPID\nGOTO/0,0\nEND\nFINI\n") ≡
-    Ok (Ok (record { acts = acts.Units Inch ∷ acts.Stop ∷ acts.OptStop ∷ acts.Rapid (pos 0) (pos 0) (pos 0) ∷ acts.End ∷ []; segments = 0 }))
+halts_are_acts : acts_of (codes "PARTNO A\nSTOP\nOPSTOP\nRAPID\nGOTO/0,0\nEND\nFINI\n") ≡
+    Ok (Ok (record { acts = acts.Units Inch ∷ acts.Do commands.Stop ∷ acts.Do commands.OptStop ∷ acts.Rapid (pos 0) (pos 0) (pos 0) ∷ acts.End ∷ []; segments = 0 }))
 unfolding root word_of expression shape by_values executed deed_of trace_from action motion_at start_up_at refused_form defined
-commands_are_acts = refl
+halts_are_acts = refl
 
 abbrev across : Surface
 across = line (pos 0) (pos 0) (pos 100000) (pos 0)

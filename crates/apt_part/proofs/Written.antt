@@ -2,6 +2,7 @@
 use Rattle.std.proofs.Common.{◌≡◌, ◌∙◌, ◌+◌, ◌≤◌, ℕ, ℤ, pos, negsuc, zero, suc, ◌≤ℤ◌, int_lt, not, ◌||◌, Bool, true, false, List, [], ◌∷◌, map, Option, Some, None, Ok, refl, sym, subst, cond, arith}
 use Rattle.std.proofs.lemmas.Int.{ints}
 use Rattle.std.proofs.lemmas.Bool.{true≢false}
+use Rattle.apt_words.specs.declared.Command.TheVariants as commands
 use Rattle.apt_words.specs.declared.Case.{Case}
 use Rattle.apt_words.specs.declared.Case.TheVariants as cases
 use Rattle.apt_words.specs.declared.Refusal.{Refusal}
@@ -119,7 +120,7 @@ at_least_one : (most : ℕ) (n : ℤ) → IsFromTo (pos 1) greatest n → n ≤�
 at_least_one most (pos n) range h = (refl, omega (arith, ints, range.0), omega (arith, ints, h))
 at_least_one most (negsuc n) range h = absurd (omega (arith, ints, range.0))
 
-spun_written : (p : Pending) (s : Settings) (turn : Turn) (n : ℤ) → Agrees p s → HasRoom s → CanWrite (acts.Spindle turn n) → Leaves p (records.Note (notes.Spindle turn n) ∷ []) s
+spun_written : (p : Pending) (s : Settings) (turn : Turn) (n : ℤ) → Agrees p s → HasRoom s → CanWrite (acts.Do (commands.Spindle turn n)) → Leaves p (records.Note (notes.Do (commands.Spindle turn n)) ∷ []) s
 spun_written p s turn n agrees room can = record { can = ((can, tt), tt); agrees = agrees; room = room }
 
 -- a number that the machine takes
@@ -134,17 +135,17 @@ saying_written machine p s (sayings.Diameter v) is agrees room takes good = reco
 saying_written machine p s (sayings.Inward v) is agrees room takes good = record { can = (tt, tt); agrees = record { feed = agrees.feed; rapid = agrees.rapid }; room = record { most = room.most } }
 saying_written machine p s (sayings.Outward v) is agrees room takes good = record { can = (tt, tt); agrees = record { feed = agrees.feed; rapid = agrees.rapid }; room = record { most = room.most } }
 saying_written machine p s (sayings.Feed v) is agrees room takes good = with_feed p s (tenths v) agrees (taken_number machine.feedmax 9999 (tenths v) cases.FeedTooLarge is.feed takes)
-saying_written machine p s (sayings.Clockwise n) is agrees room takes good =
+saying_written machine p s (sayings.Do (commands.Spindle spins.Cw n)) is agrees room takes good =
     spun_written p s spins.Cw (whole n) agrees room (at_least_one 9999 (whole n) good (taken_number machine.spinmax 9999 (whole n) cases.SpindleTooLarge is.spindle takes))
-saying_written machine p s (sayings.Anticlockwise n) is agrees room takes good =
+saying_written machine p s (sayings.Do (commands.Spindle spins.Ccw n)) is agrees room takes good =
     spun_written p s spins.Ccw (whole n) agrees room (at_least_one 9999 (whole n) good (taken_number machine.spinmax 9999 (whole n) cases.SpindleTooLarge is.spindle takes))
-saying_written machine p s sayings.SpindleOff is agrees room takes good = spun_written p s spins.Off (pos 0) agrees room refl
-saying_written machine p s (sayings.Coolant cool) is agrees room takes good = record { can = ((tt, tt), tt); agrees = agrees; room = room }
-saying_written machine p s (sayings.Tool n) is agrees room takes good =
+saying_written machine p s (sayings.Do (commands.Spindle spins.Off n)) is agrees room takes good = spun_written p s spins.Off (pos 0) agrees room refl
+saying_written machine p s (sayings.Do (commands.Coolant cool)) is agrees room takes good = record { can = ((tt, tt), tt); agrees = agrees; room = room }
+saying_written machine p s (sayings.Do (commands.Tool n)) is agrees room takes good =
     record { can = ((at_least_one 99 (whole n) good (taken_number machine.toolmax 99 (whole n) cases.ToolTooLarge is.tool takes), tt), tt); agrees = agrees; room = room }
 saying_written machine p s sayings.Rapid is agrees room takes good = record { can = (tt, tt); agrees = record { feed = agrees.feed; rapid = refl }; room = record { most = room.most } }
-saying_written machine p s sayings.Stop is agrees room takes good = record { can = ((tt, tt), tt); agrees = agrees; room = room }
-saying_written machine p s sayings.OptStop is agrees room takes good = record { can = ((tt, tt), tt); agrees = agrees; room = room }
+saying_written machine p s (sayings.Do commands.Stop) is agrees room takes good = record { can = ((tt, tt), tt); agrees = agrees; room = room }
+saying_written machine p s (sayings.Do commands.OptStop) is agrees room takes good = record { can = ((tt, tt), tt); agrees = agrees; room = room }
 saying_written machine p s sayings.End is agrees room takes good = record { can = (end_written p.ended p, tt); agrees = record { feed = agrees.feed; rapid = agrees.rapid }; room = record { most = room.most } }
 saying_written machine p s sayings.Fini is agrees room takes good = record { can = (end_written p.ended p, tt); agrees = record { feed = agrees.feed; rapid = agrees.rapid }; room = room }
 
@@ -155,7 +156,7 @@ note_written machine p s (Says saying) note is agrees room takes said good = rw 
 note_written machine p s (Sets side) note is agrees room takes said good = absurd said
 note_written machine p s (Defines name form) note is agrees room takes said good = absurd said
 note_written machine p s (Goes route) note is agrees room takes said good = absurd said
-note_written machine p s (Cuts side go drive how check n) note is agrees room takes said good = absurd said
+note_written machine p s (Cuts contour n) note is agrees room takes said good = absurd said
 note_written machine p s Nothing note is agrees room takes said good = absurd said
 
 moved : (p : Pending) (s : Settings) (reach : Reach) (to : Position) → Agrees p s → HasRoom s → IsPosition to → IsFed s (effects.Moves reach to)

@@ -83,10 +83,10 @@ pub fn steps_of(alloc: Global, text: Vec<u8>, machine: &Machine) -> Result<Vec<S
     ensures passes { IfOk result (λ steps. Passes machine.now text.items steps.items) }
     ensures steps { IfOk result (λ steps. AreSteps steps.items) }
 {
-    whole_steps(alloc, text, machine)
+    steps_of_value(alloc, text, machine)
 }
 
-fn whole_steps(alloc: Global, text: Vec<u8>, machine: &Machine) -> Result<Vec<Step>, PartError>
+fn steps_of_value(alloc: Global, text: Vec<u8>, machine: &Machine) -> Result<Vec<Step>, PartError>
     ensures { IsPart (parts.steps_of machine.now text.items) (result_map_both (λ steps. steps.items) (λ e. e) result) }
 {
     let program = program_in(alloc, text)?;
@@ -117,12 +117,12 @@ fn steps_by(alloc: Global, program: Program, machine: &Machine) -> Result<Vec<St
         return Err(RunError::NoMemory);
     };
     let plain = plain_steps(alloc, unrolled)?;
-    unrefused(alloc, plain, machine)
+    check_plain(alloc, plain, machine)
 }
 
 /// Plain steps of which neither their own cases nor the machine refuse one, or the first that is refused, else the fault
 /// behind them.
-fn unrefused(alloc: Global, plain: Unrolled, machine: &Machine) -> Result<Vec<Step>, RunError>
+fn check_plain(alloc: Global, plain: Unrolled, machine: &Machine) -> Result<Vec<Step>, RunError>
     requires scalars { AreScalars plain.steps }
     requires sources { AreExecuted plain.steps }
     ensures { IsDueAs (λ steps. steps.items) refusal_in (parts.unless_refused plain.steps (parts.refusal_by machine.now plain)) result }
@@ -188,10 +188,10 @@ pub fn part_of<G: Gate>(
     ensures promise { IfOk result (λ p. Promise machine.now text.items p) }
     ensures steps { IfOk result (λ p. AreSteps p.steps) }
 {
-    whole_part(rt, alloc, text, machine, gate)
+    part_of_value(rt, alloc, text, machine, gate)
 }
 
-fn whole_part<G: Gate>(
+fn part_of_value<G: Gate>(
     rt: &(impl Threads + Sync),
     alloc: Global,
     text: Vec<u8>,
@@ -226,11 +226,11 @@ fn part_by<G: Gate>(
     // The statements' memory is free for the records.
     drop(program);
     let plain = plain_steps(alloc, unrolled)?;
-    recorded(rt, alloc, plain, machine, gate)
+    record_plain(rt, alloc, plain, machine, gate)
 }
 
 /// Plain steps with their records, or the first that is refused, else the fault behind them.
-fn recorded<G: Gate>(
+fn record_plain<G: Gate>(
     rt: &(impl Threads + Sync),
     alloc: Global,
     plain: Unrolled,

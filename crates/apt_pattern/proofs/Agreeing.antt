@@ -65,7 +65,7 @@ Changes d (Says saying) now = (now.units ≡ units_behind d.units saying) × (no
 Changes d (Sets side) now = IsSame d now
 Changes d (Defines name form) now = (now.units ≡ d.units) × ((f : Figure) × (figure_of d.units d.table form ≡ Ok f) × (now.table ≡ table_with d.table name f))
 Changes d (Goes route) now = IsSame d now
-Changes d (Cuts side go drive how check n) now = IsSame d now
+Changes d (Cuts contour n) now = IsSame d now
 Changes d Nothing now = IsSame d now
 
 -- RAPID or GOTO by coordinates
@@ -165,7 +165,7 @@ plain_replaces d deed (Defines name form) is =
     unless_comes (IsReplaced d deed) (definition_cases d.patterns name) (defined_as d deed name (figure_of d.units d.table form))
     (λ none. defined_replaces d deed name form (figure_of d.units d.table form) is refl)
 plain_replaces d deed (Goes route) is = gone_replaces d deed route is
-plain_replaces d deed (Cuts side go drive how check n) is = stays_replaces d deed (Cuts side go drive how check n) d is (same d)
+plain_replaces d deed (Cuts contour n) is = stays_replaces d deed (Cuts contour n) d is (same d)
 plain_replaces d deed Nothing is = stays_replaces d deed Nothing d is (same d)
 
 patterned_replaces : (d : Drilling) (deed : Deed) (name : List ℕ) (n : ℤ) (p q : Option Position) → IsOpen deed → Replaces d deed (patterned_as d name n p q)
@@ -239,7 +239,7 @@ plain_stops d deed (Defines name form) is =
     unless_stops (IsBad d deed) (definition_cases d.patterns name) (defined_as d deed name (figure_of d.units d.table form))
     (defined_stops d deed name form (figure_of d.units d.table form) is refl)
 plain_stops d deed (Goes route) is = gone_stops (IsBad d deed) d deed route
-plain_stops d deed (Cuts side go drive how check n) is = tt
+plain_stops d deed (Cuts contour n) is = tt
 plain_stops d deed Nothing is = tt
 
 patterned_stops : (P : Type 0) (d : Drilling) (name : List ℕ) (n : ℤ) (p q : Option Position) → OfStopping P (patterned_as d name n p q)
@@ -275,12 +275,8 @@ note_keeps s (notes.Cutter d) = refl
 note_keeps s (notes.Intol t) = refl
 note_keeps s (notes.Outtol t) = refl
 note_keeps s (notes.Feed f) = refl
-note_keeps s (notes.Spindle turn n) = refl
-note_keeps s (notes.Coolant c) = refl
-note_keeps s (notes.Tool n) = refl
+note_keeps s (notes.Do command) = refl
 note_keeps s notes.Rapid = refl
-note_keeps s notes.Stop = refl
-note_keeps s notes.OptStop = refl
 note_keeps s notes.End = refl
 note_keeps s notes.Fini = refl
 
@@ -351,8 +347,8 @@ ask_agrees d now here vs (Says saying) agrees is = says_agrees d now here vs say
 ask_agrees d now here vs (Sets side) agrees is = left_alone d now here vs (Some (effects.Sets (changes.Side side))) agrees is (refl, refl)
 ask_agrees d now here vs (Defines name form) agrees is = defines_agrees d now here vs name form agrees is
 ask_agrees d now here vs (Goes route) agrees is = left_alone d now here vs (goes here route) agrees is (goes_all here vs route)
-ask_agrees d now here vs (Cuts side go drive how check n) agrees is =
-    left_alone d now here vs (cuts_by (whole n) (motion_at here side go drive how check)) agrees is (cuts_all here vs (legs_by (whole n)) (motion_at here side go drive how check))
+ask_agrees d now here vs (Cuts contour n) agrees is =
+    left_alone d now here vs (cuts_by (whole n) (motion_at here contour)) agrees is (cuts_all here vs (legs_by (whole n)) (motion_at here contour))
 ask_agrees d now here vs Nothing agrees is = left_alone d now here vs (Some (effects.Sets changes.Nothing)) agrees is (refl, refl)
 
 -- behind a step that stays

@@ -315,7 +315,7 @@ plain_drills d deed (Says saying) = none_drills d d.cycle (plain d deed (Says sa
 plain_drills d deed (Sets side) = none_drills d d.cycle (plain d deed (Sets side))
 plain_drills d deed (Defines name form) = none_drills d d.cycle (plain d deed (Defines name form))
 plain_drills d deed (Goes route) = gone_drills d deed route
-plain_drills d deed (Cuts side go drive how check n) = none_drills d d.cycle (plain d deed (Cuts side go drive how check n))
+plain_drills d deed (Cuts contour n) = none_drills d d.cycle (plain d deed (Cuts contour n))
 plain_drills d deed Nothing = none_drills d d.cycle (plain d deed Nothing)
 
 drilled_drills : (d : Drilling) (drill : Drill) → OfComing (DrillsBy d.cycle d (drill_points d drill)) (drilled d drill)

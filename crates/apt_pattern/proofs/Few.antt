@@ -117,7 +117,7 @@ plain_few d deed (Sets side) = one_few d d (deed ∷ []) (omega arith) refl
 plain_few d deed (Defines name form) =
     unless_comes (IsFew d) (definition_cases d.patterns name) (defined_as d deed name (figure_of d.units d.table form)) (λ e. defined_few d deed name (figure_of d.units d.table form))
 plain_few d deed (Goes route) = gone_few d deed route
-plain_few d deed (Cuts side go drive how check n) = one_few d d (deed ∷ []) (omega arith) refl
+plain_few d deed (Cuts contour n) = one_few d d (deed ∷ []) (omega arith) refl
 plain_few d deed Nothing = one_few d d (deed ∷ []) (omega arith) refl
 
 patterned_few : (d : Drilling) (name : List ℕ) (n : ℤ) (p q : Option Position) → Fews d (patterned_as d name n p q)

@@ -153,7 +153,7 @@ plain_scaled d deed (Defines name form) own is =
     unless_comes IsScaled (definition_cases d.patterns name) (defined_as d deed name (figure_of d.units d.table form))
     (λ none. defined_scaled d deed name (figure_of d.units d.table form) own is (figure_in d.units d.table form is.0))
 plain_scaled d deed (Goes route) own is = gone_scaled d deed route own is
-plain_scaled d deed (Cuts side go drive how check n) own is = ((own, tt), is)
+plain_scaled d deed (Cuts contour n) own is = ((own, tt), is)
 plain_scaled d deed Nothing own is = ((own, tt), is)
 
 -- ---- patterns and cycles

@@ -60,7 +60,7 @@ plain_bare d deed (Defines name form) bare =
     unless_bare deed (first_of (definition_cases d.patterns name)) (defined_as d deed name (figure_of d.units d.table form)) (no_pattern d.patterns name bare.patterns)
     (defined_bare d deed name (figure_of d.units d.table form) bare)
 plain_bare d deed (Goes route) bare = gone_bare d deed route bare
-plain_bare d deed (Cuts side go drive how check n) bare = (refl, bare)
+plain_bare d deed (Cuts contour n) bare = (refl, bare)
 plain_bare d deed Nothing bare = (refl, bare)
 
 alone : (here : Situation) (st : Step) (rest : List Step) → first_refused here (st ∷ rest) ≡ None → first_refused here (st ∷ []) ≡ None

@@ -140,7 +140,7 @@ plain d deed (Says saying) = stays deed (record d { units = units_behind d.units
 plain d deed (Sets side) = stays deed d
 plain d deed (Defines name form) = defined d deed name form
 plain d deed (Goes route) = gone d deed route
-plain d deed (Cuts side go drive how check n) = stays deed d
+plain d deed (Cuts contour n) = stays deed d
 plain d deed Nothing = stays deed d
 
 -- a name gets a pattern

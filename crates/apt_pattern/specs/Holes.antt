@@ -32,11 +32,7 @@ Asking A = List Record → Record → List A
 -- a record begins the step with a number
 abbrev pub begins : ℕ → Record → Bool
 begins n (records.Statement line step) = step == n
-begins n (records.Note note) = false
-begins n (records.Drive surface side sense) = false
-begins n (records.Check surface how) = false
-begins n (records.Point reach to) = false
-begins n (records.Contour vertices) = false
+begins n _ = false
 
 -- the statement that was said last is the step with a number
 abbrev pub is_under : ℕ → List Record → Bool
@@ -99,13 +95,8 @@ route_points d (routes.By x y z) = None
 route_points d (routes.Start how name other) = None
 
 abbrev pub ask_points : Drilling → Ask → Option (List Position)
-ask_points d (Titles text) = None
-ask_points d (Says saying) = None
-ask_points d (Sets side) = None
-ask_points d (Defines name form) = None
 ask_points d (Goes route) = route_points d route
-ask_points d (Cuts side go drive how check n) = None
-ask_points d Nothing = None
+ask_points d _ = None
 
 abbrev pub drill_points : Drilling → Drill → Option (List Position)
 drill_points d (drills.Pattern name p q v) = None

@@ -43,10 +43,10 @@ pub fn expand(alloc: Global, u: Unrolled) -> Result<Unrolled, AllocError>
     ensures few { IfOk result (λ r. length r.steps ≤ length u.steps + 25000) }
     ensures contours { IfOk result (λ r. contours r.steps ≤ contours u.steps) }
 {
-    expand_all(alloc, u)
+    expand_value(alloc, u)
 }
 
-fn expand_all(alloc: Global, u: Unrolled) -> Result<Unrolled, AllocError>
+fn expand_value(alloc: Global, u: Unrolled) -> Result<Unrolled, AllocError>
     requires scalars { AreScalars u.steps }
     requires drills { AreDrillScalars u.steps }
     ensures { IfOk result (λ r. r ≡ spec.expansion u.steps u.fault) }

@@ -3,6 +3,7 @@ use Rattle.std.proofs.Common.{◌≡◌, cond, ℕ, zero, suc, ◌+◌, ◌-◌,
 use Rattle.std.specs.Prelude.{if◌then◌else◌, ◌%◌}
 use Rattle.std.specs.List.{filter, flat_map}
 use Rattle.std.proofs.lemmas.List.{length-map, length-append}
+use Rattle.apt_words.specs.declared.Command.TheVariants as commands
 use Rattle.apt_words.specs.declared.Units.TheVariants.{Inch, Mm}
 use Rattle.apt_words.specs.declared.Turn.TheVariants as turns
 use Rattle.apt_words.specs.declared.Cool.TheVariants as coolants
@@ -99,15 +100,15 @@ number_words_few false n = omega arith
 pub act_few : (incremental : Bool) (held : Held) (act : Act) → all_longest (act_words incremental held act) ≤ 41
 act_few incremental held (acts.Units Inch) = omega arith
 act_few incremental held (acts.Units Mm) = omega arith
-act_few incremental held (acts.Spindle turns.Cw s) = omega arith
-act_few incremental held (acts.Spindle turns.Ccw s) = omega arith
-act_few incremental held (acts.Spindle turns.Off s) = omega arith
-act_few incremental held (acts.Tool t) = omega arith
-act_few incremental held (acts.Coolant coolants.Mist) = omega arith
-act_few incremental held (acts.Coolant coolants.Flood) = omega arith
-act_few incremental held (acts.Coolant coolants.Off) = omega arith
-act_few incremental held acts.Stop = omega arith
-act_few incremental held acts.OptStop = omega arith
+act_few incremental held (acts.Do (commands.Spindle turns.Cw n)) = omega arith
+act_few incremental held (acts.Do (commands.Spindle turns.Ccw n)) = omega arith
+act_few incremental held (acts.Do (commands.Spindle turns.Off n)) = omega arith
+act_few incremental held (acts.Do (commands.Coolant coolants.Mist)) = omega arith
+act_few incremental held (acts.Do (commands.Coolant coolants.Flood)) = omega arith
+act_few incremental held (acts.Do (commands.Coolant coolants.Off)) = omega arith
+act_few incremental held (acts.Do (commands.Tool n)) = omega arith
+act_few incremental held (acts.Do commands.Stop) = omega arith
+act_few incremental held (acts.Do commands.OptStop) = omega arith
 act_few incremental held acts.End = omega arith
 act_few incremental held (acts.Rapid x y z) =
     let ways = goes_by_ways incremental held x y z in
@@ -155,12 +156,8 @@ note_few p (notes.Cutter d) = omega arith
 note_few p (notes.Intol t) = omega arith
 note_few p (notes.Outtol t) = omega arith
 note_few p (notes.Feed f) = omega arith
-note_few p (notes.Spindle turn n) = omega arith
-note_few p (notes.Coolant c) = omega arith
-note_few p (notes.Tool n) = omega arith
+note_few p (notes.Do command) = omega arith
 note_few p notes.Rapid = omega arith
-note_few p notes.Stop = omega arith
-note_few p notes.OptStop = omega arith
 note_few p notes.End = end_once p.ended
 note_few p notes.Fini = end_once p.ended
 

@@ -2,6 +2,8 @@
 use Rattle.std.specs.Prelude.{◌≡◌, ℕ, ◌+◌, ◌*◌, ◌%◌, ◌≤◌, nat_le, ℤ, pos, ◌-ℤ◌, unsigned_abs, ◌==◌, ◌&&◌, not, Bool, true, false, List, [], ◌∷◌, ◌++◌, map, Option, Some, None, if◌then◌else◌}
 use Rattle.std.specs.List.{filter, flat_map}
 use Rattle.std.specs.Ordering.{int_eq}
+use Rattle.apt_words.specs.declared.Command.{Command}
+use Rattle.apt_words.specs.declared.Command.TheVariants as commands
 use Rattle.apt_words.specs.declared.Units.TheVariants.{Inch, Mm}
 use Rattle.apt_words.specs.declared.Turn.TheVariants as turns
 use Rattle.apt_words.specs.declared.Cool.TheVariants as coolants
@@ -51,21 +53,25 @@ mode_words false false = []
 abbrev pub move_words : Bool → Held → ℕ → ℤ → ℤ → ℤ → List TapeWord
 move_words ways held code x y z = mode_words held.incremental ways ++ g code ∷ position ways held x y z
 
+-- the words of a command
+abbrev pub command_block : Command → List TapeWord
+command_block (commands.Spindle turns.Cw n) = tape_word letter_s n ∷ m 3 ∷ []
+command_block (commands.Spindle turns.Ccw n) = tape_word letter_s n ∷ m 4 ∷ []
+command_block (commands.Spindle turns.Off n) = m 5 ∷ []
+command_block (commands.Tool n) = tape_word letter_t n ∷ m 6 ∷ []
+command_block (commands.Coolant coolants.Mist) = m 7 ∷ []
+command_block (commands.Coolant coolants.Flood) = m 8 ∷ []
+command_block (commands.Coolant coolants.Off) = m 9 ∷ []
+command_block commands.Stop = m 0 ∷ []
+command_block commands.OptStop = m 1 ∷ []
+
 -- all words of an act, where something holds
 abbrev pub act_words : Bool → Held → Act → List TapeWord
 act_words incremental held (acts.Units Inch) = g 70 ∷ g 90 ∷ g 94 ∷ []
 act_words incremental held (acts.Units Mm) = g 71 ∷ g 90 ∷ g 94 ∷ []
 act_words incremental held (acts.Rapid x y z) = move_words (goes_by_ways incremental held x y z) held 0 x y z
 act_words incremental held (acts.Cut x y z feed) = move_words (goes_by_ways incremental held x y z) held 1 x y z ++ tape_word letter_f feed ∷ []
-act_words incremental held (acts.Spindle turns.Cw n) = tape_word letter_s n ∷ m 3 ∷ []
-act_words incremental held (acts.Spindle turns.Ccw n) = tape_word letter_s n ∷ m 4 ∷ []
-act_words incremental held (acts.Spindle turns.Off n) = m 5 ∷ []
-act_words incremental held (acts.Tool n) = tape_word letter_t n ∷ m 6 ∷ []
-act_words incremental held (acts.Coolant coolants.Mist) = m 7 ∷ []
-act_words incremental held (acts.Coolant coolants.Flood) = m 8 ∷ []
-act_words incremental held (acts.Coolant coolants.Off) = m 9 ∷ []
-act_words incremental held acts.Stop = m 0 ∷ []
-act_words incremental held acts.OptStop = m 1 ∷ []
+act_words incremental held (acts.Do command) = command_block command
 act_words incremental held acts.End = m 2 ∷ []
 
 -- the sequence number of the block that k blocks precede, none where the step is 0
@@ -86,11 +92,7 @@ abbrev pub behind : Bool → Held → Act → Held
 behind incremental held (acts.Units u) = record held { units = Some u; incremental = false }
 behind incremental held (acts.Rapid x y z) = behind_move (goes_by_ways incremental held x y z) held 0 x y z
 behind incremental held (acts.Cut x y z feed) = record (behind_move (goes_by_ways incremental held x y z) held 1 x y z) { feed = Some feed }
-behind incremental held (acts.Spindle turn n) = held
-behind incremental held (acts.Coolant c) = held
-behind incremental held (acts.Tool n) = held
-behind incremental held acts.Stop = held
-behind incremental held acts.OptStop = held
+behind incremental held (acts.Do command) = held
 behind incremental held acts.End = held
 
 abbrev pub behind_all : Bool → Held → List Act → Held
@@ -164,18 +166,20 @@ IsUpTo most v = (v ≡ pos (unsigned_abs v)) × (1 ≤ unsigned_abs v) × (unsig
 abbrev pub IsPosition : ℤ → ℤ → ℤ → Type 0
 IsPosition x y z = IsCoordinate x × IsCoordinate y × IsCoordinate z
 
+-- a command that a tape can hold
+abbrev pub CanCommand : Command → Type 0
+CanCommand (commands.Spindle turns.Cw n) = IsUpTo 9999 n
+CanCommand (commands.Spindle turns.Ccw n) = IsUpTo 9999 n
+CanCommand (commands.Spindle turns.Off n) = n ≡ pos 0
+CanCommand (commands.Tool n) = IsUpTo 99 n
+CanCommand _ = Unit {0}
+
 -- an act whose numbers a block has room for
 abbrev pub CanWrite : Act → Type 0
 CanWrite (acts.Units u) = Unit {0}
 CanWrite (acts.Rapid x y z) = IsPosition x y z
 CanWrite (acts.Cut x y z feed) = IsPosition x y z × IsUpTo 9999 feed
-CanWrite (acts.Spindle turns.Cw n) = IsUpTo 9999 n
-CanWrite (acts.Spindle turns.Ccw n) = IsUpTo 9999 n
-CanWrite (acts.Spindle turns.Off n) = n ≡ pos 0
-CanWrite (acts.Coolant c) = Unit {0}
-CanWrite (acts.Tool n) = IsUpTo 99 n
-CanWrite acts.Stop = Unit {0}
-CanWrite acts.OptStop = Unit {0}
+CanWrite (acts.Do command) = CanCommand command
 CanWrite acts.End = Unit {0}
 
 -- acts that can be written, up to the end, which stands last and nowhere else
@@ -187,15 +191,8 @@ ToTheEnd (act ∷ more) = CanWrite act × ToTheEnd more
 
 -- the end of a program
 abbrev pub is_end : Act → Bool
-is_end (acts.Units u) = false
-is_end (acts.Rapid x y z) = false
-is_end (acts.Cut x y z feed) = false
-is_end (acts.Spindle turn n) = false
-is_end (acts.Coolant c) = false
-is_end (acts.Tool n) = false
-is_end acts.Stop = false
-is_end acts.OptStop = false
 is_end acts.End = true
+is_end _ = false
 
 -- a program of a control: the units first, and the end last
 abbrev pub IsProgram : List Act → Type 0

@@ -52,11 +52,7 @@ end_by before = if has_ended before then [] else acts.End ∷ []
 
 -- what a note asks for: a command as it stands
 abbrev pub note_said : List Record → Note → List Act
-note_said before (notes.Spindle turn n) = acts.Spindle turn n ∷ []
-note_said before (notes.Coolant c) = acts.Coolant c ∷ []
-note_said before (notes.Tool n) = acts.Tool n ∷ []
-note_said before notes.Stop = acts.Stop ∷ []
-note_said before notes.OptStop = acts.OptStop ∷ []
+note_said before (notes.Do command) = acts.Do command ∷ []
 note_said before notes.End = end_by before
 note_said before notes.Fini = end_by before
 note_said before _ = []

@@ -23,10 +23,10 @@ pub fn blocks(alloc: Global, acts: &[Act], m: &Machine) -> Result<Vec<Block>, Al
     ensures run { spec.IsProgram acts.now → IfOk result (λ v. control_run m.now.code (map (coding.byte_of m.now.code) (spec.text_of m.now.short v.items)) ≡ Ok acts.now) }
     ensures whole { m.now.changed ≡ false → IfOk result (λ v. v.items ≡ whole_blocks m.now.incremental m.now.seq 0 nothing_held acts.now) }
 {
-    all_blocks(alloc, acts, m)
+    blocks_value(alloc, acts, m)
 }
 
-fn all_blocks(alloc: Global, acts: &[Act], m: &Machine) -> Result<Vec<Block>, AllocError>
+fn blocks_value(alloc: Global, acts: &[Act], m: &Machine) -> Result<Vec<Block>, AllocError>
     requires { CanWriteAll acts.now }
     ensures { IfOk result (λ v. v.items ≡ spec.blocks_of m.now acts.now) }
 {

@@ -1,6 +1,7 @@
 -- When records are those of a file.
 use Rattle.std.proofs.Common.{◌≡◌, ℕ, ◌+◌, ◌*◌, ◌≤◌, Bool, true, false, List, [], ◌∷◌, MatchBool, pos, length, refl, arith}
 use Rattle.std.proofs.lemmas.List.{length-map}
+use Rattle.apt_words.specs.declared.Command.TheVariants as commands
 use Rattle.apt_plane.specs.declared.figures.Surface.TheVariants as surfaces
 use Rattle.apt_records.specs.declared.record.Note.TheVariants as notes
 use Rattle.apt_records.specs.declared.record.Record.{Record}
@@ -45,12 +46,12 @@ words_few (records.Note (notes.Cutter d)) = omega arith
 words_few (records.Note (notes.Intol t)) = omega arith
 words_few (records.Note (notes.Outtol t)) = omega arith
 words_few (records.Note (notes.Feed f)) = omega arith
-words_few (records.Note (notes.Spindle turn n)) = omega arith
-words_few (records.Note (notes.Coolant c)) = omega arith
-words_few (records.Note (notes.Tool n)) = omega arith
+words_few (records.Note (notes.Do (commands.Spindle turn n))) = omega arith
+words_few (records.Note (notes.Do (commands.Coolant c))) = omega arith
+words_few (records.Note (notes.Do (commands.Tool n))) = omega arith
+words_few (records.Note (notes.Do commands.Stop)) = omega arith
+words_few (records.Note (notes.Do commands.OptStop)) = omega arith
 words_few (records.Note notes.Rapid) = omega arith
-words_few (records.Note notes.Stop) = omega arith
-words_few (records.Note notes.OptStop) = omega arith
 words_few (records.Note notes.End) = omega arith
 words_few (records.Note notes.Fini) = omega arith
 words_few (records.Drive (surfaces.Line l) side sense) = omega arith

@@ -5,6 +5,7 @@ use Rattle.apt_records.specs.declared.record.Note.TheVariants as notes
 use Rattle.apt_records.specs.declared.record.Record.TheVariants as records
 use Rattle.apt_plane.specs.declared.figures.Surface.{Surface}
 use Rattle.apt_plane.specs.declared.figures.Surface.TheVariants as surfaces
+use Rattle.apt_words.specs.declared.Command.TheVariants as commands
 use Rattle.apt_words.specs.declared.Cool.TheVariants as cools
 use Rattle.apt_words.specs.declared.Side.TheVariants as sides
 use Rattle.apt_words.specs.declared.Stop.TheVariants as stops
@@ -24,13 +25,13 @@ abbrev at : ℤ → ℤ → ℤ → Position
 at x y z = record { xy = record { x = x; y = y }; z = z }
 
 notes_in_words :
-    map note_words (notes.Partno (codes "AB") ∷ notes.Rapid ∷ notes.Stop ∷ notes.OptStop ∷ notes.End ∷ notes.Feed (pos 60) ∷ [])
+    map note_words (notes.Partno (codes "AB") ∷ notes.Rapid ∷ notes.Do commands.Stop ∷ notes.Do commands.OptStop ∷ notes.End ∷ notes.Feed (pos 60) ∷ [])
     ≡ (pos 2000 ∷ pos 1 ∷ pos 65 ∷ pos 66 ∷ []) ∷ (pos 2000 ∷ pos 2 ∷ []) ∷ (pos 2000 ∷ pos 3 ∷ []) ∷ (pos 2000 ∷ pos 4 ∷ []) ∷ (pos 2000 ∷ pos 5 ∷ [])
     ∷ (pos 2000 ∷ pos 6 ∷ pos 60 ∷ []) ∷ []
 notes_in_words = refl
 
 tools_in_words :
-    map note_words (notes.Spindle turns.Cw (pos 70) ∷ notes.Spindle turns.Ccw (pos 70) ∷ notes.Spindle turns.Off (pos 0) ∷ notes.Coolant cools.Off ∷ notes.Coolant cools.Mist ∷ notes.Coolant cools.Flood ∷ notes.Tool (pos 9) ∷ [])
+    map note_words (notes.Do (commands.Spindle turns.Cw (pos 70)) ∷ notes.Do (commands.Spindle turns.Ccw (pos 70)) ∷ notes.Do (commands.Spindle turns.Off (pos 0)) ∷ notes.Do (commands.Coolant cools.Off) ∷ notes.Do (commands.Coolant cools.Mist) ∷ notes.Do (commands.Coolant cools.Flood) ∷ notes.Do (commands.Tool (pos 9)) ∷ [])
     ≡ (pos 2000 ∷ pos 7 ∷ pos 70 ∷ pos 1 ∷ []) ∷ (pos 2000 ∷ pos 7 ∷ pos 70 ∷ pos 2 ∷ []) ∷ (pos 2000 ∷ pos 7 ∷ pos 0 ∷ pos 0 ∷ []) ∷ (pos 2000 ∷ pos 8 ∷ pos 0 ∷ [])
     ∷ (pos 2000 ∷ pos 8 ∷ pos 1 ∷ []) ∷ (pos 2000 ∷ pos 8 ∷ pos 2 ∷ []) ∷ (pos 2000 ∷ pos 9 ∷ pos 9 ∷ []) ∷ []
 tools_in_words = refl

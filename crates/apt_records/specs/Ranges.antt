@@ -1,5 +1,7 @@
 -- The numbers of records, in grid units, and how a list of records ends.
 use Rattle.std.specs.Prelude.{◌≡◌, ℕ, ◌+◌, ◌≤◌, length, ℤ, pos, ◌≤ℤ◌, unsigned_abs, Bool, true, false, List, [], ◌∷◌}
+use Rattle.apt_words.specs.declared.Command.{Command}
+use Rattle.apt_words.specs.declared.Command.TheVariants as commands
 use Rattle.apt_words.specs.declared.Turn.{Turn}
 use Rattle.apt_words.specs.declared.Turn.TheVariants as turns
 use Rattle.apt_words.specs.Sources.{IsCount, IsText}
@@ -29,21 +31,20 @@ IsSpeed turns.Cw n = IsFromTo (pos 1) greatest n
 IsSpeed turns.Ccw n = IsFromTo (pos 1) greatest n
 IsSpeed turns.Off n = n ≡ pos 0
 
+-- a command in whole numbers
+abbrev pub IsCommand : Command → Type 0
+IsCommand (commands.Spindle turn n) = IsSpeed turn n
+IsCommand (commands.Tool n) = IsFromTo (pos 1) greatest n
+IsCommand _ = Unit {0}
+
 abbrev pub IsNote : Note → Type 0
 IsNote (notes.Partno text) = IsText text
-IsNote (notes.Units units) = Unit {0}
 IsNote (notes.Cutter d) = IsFromTo (pos 0) (pos 1000000) d
 IsNote (notes.Intol t) = IsFromTo (pos 0) (pos 10000) t
 IsNote (notes.Outtol t) = IsFromTo (pos 0) (pos 10000) t
 IsNote (notes.Feed f) = IsFromTo (pos 1) greatest f
-IsNote (notes.Spindle turn n) = IsSpeed turn n
-IsNote (notes.Coolant c) = Unit {0}
-IsNote (notes.Tool n) = IsFromTo (pos 1) greatest n
-IsNote notes.Rapid = Unit {0}
-IsNote notes.Stop = Unit {0}
-IsNote notes.OptStop = Unit {0}
-IsNote notes.End = Unit {0}
-IsNote notes.Fini = Unit {0}
+IsNote (notes.Do command) = IsCommand command
+IsNote _ = Unit {0}
 
 abbrev pub ArePositions : List Position → Type 0
 ArePositions [] = Unit {0}
@@ -65,12 +66,8 @@ AreRecords (r ∷ rs) = IsRecord r × AreRecords rs
 
 -- the vertices of a contour
 abbrev pub vertices_in : Record → ℕ
-vertices_in (records.Statement line step) = 0
-vertices_in (records.Note note) = 0
-vertices_in (records.Drive surface side sense) = 0
-vertices_in (records.Check surface how) = 0
-vertices_in (records.Point reach to) = 0
 vertices_in (records.Contour vertices) = length vertices
+vertices_in _ = 0
 
 -- the vertices of the contours among records
 abbrev pub vertex_count : List Record → ℕ
@@ -92,12 +89,8 @@ note_mark (notes.Cutter d) = Other
 note_mark (notes.Intol t) = Other
 note_mark (notes.Outtol t) = Other
 note_mark (notes.Feed f) = Other
-note_mark (notes.Spindle turn n) = Other
-note_mark (notes.Coolant c) = Other
-note_mark (notes.Tool n) = Other
+note_mark (notes.Do command) = Other
 note_mark notes.Rapid = Other
-note_mark notes.Stop = Other
-note_mark notes.OptStop = Other
 note_mark notes.End = End
 note_mark notes.Fini = Fini
 

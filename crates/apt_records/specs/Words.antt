@@ -1,6 +1,8 @@
 -- The words of a record: its class, its subtype, and the words of its kind.
 use Rattle.std.specs.Prelude.{ℤ, pos, List, [], ◌∷◌, ◌++◌, map}
 use Rattle.std.specs.List.{flat_map}
+use Rattle.apt_words.specs.declared.Command.{Command}
+use Rattle.apt_words.specs.declared.Command.TheVariants as commands
 use Rattle.apt_words.specs.declared.Units.{Units}
 use Rattle.apt_words.specs.declared.Units.TheVariants as units
 use Rattle.apt_words.specs.declared.Turn.{Turn}
@@ -60,16 +62,19 @@ abbrev pub surface_words : Surface → List ℤ
 surface_words (surfaces.Line l) = pos 1 ∷ l.base.x ∷ l.base.y ∷ l.dir.dx ∷ l.dir.dy ∷ []
 surface_words (surfaces.Circ c) = pos 2 ∷ c.c.x ∷ c.c.y ∷ c.r ∷ pos 0 ∷ []
 
+abbrev pub command_words : Command → List ℤ
+command_words commands.Stop = pos 2000 ∷ pos 3 ∷ []
+command_words commands.OptStop = pos 2000 ∷ pos 4 ∷ []
+command_words (commands.Spindle turn n) = pos 2000 ∷ pos 7 ∷ n ∷ turn_word turn ∷ []
+command_words (commands.Coolant c) = pos 2000 ∷ pos 8 ∷ cool_word c ∷ []
+command_words (commands.Tool n) = pos 2000 ∷ pos 9 ∷ n ∷ []
+
 abbrev pub note_words : Note → List ℤ
 note_words (notes.Partno text) = pos 2000 ∷ pos 1 ∷ map pos text
 note_words notes.Rapid = pos 2000 ∷ pos 2 ∷ []
-note_words notes.Stop = pos 2000 ∷ pos 3 ∷ []
-note_words notes.OptStop = pos 2000 ∷ pos 4 ∷ []
+note_words (notes.Do command) = command_words command
 note_words notes.End = pos 2000 ∷ pos 5 ∷ []
 note_words (notes.Feed f) = pos 2000 ∷ pos 6 ∷ f ∷ []
-note_words (notes.Spindle turn n) = pos 2000 ∷ pos 7 ∷ n ∷ turn_word turn ∷ []
-note_words (notes.Coolant c) = pos 2000 ∷ pos 8 ∷ cool_word c ∷ []
-note_words (notes.Tool n) = pos 2000 ∷ pos 9 ∷ n ∷ []
 note_words (notes.Cutter d) = pos 6000 ∷ pos 1 ∷ d ∷ []
 note_words (notes.Intol t) = pos 6000 ∷ pos 2 ∷ t ∷ []
 note_words (notes.Outtol t) = pos 6000 ∷ pos 3 ∷ t ∷ []

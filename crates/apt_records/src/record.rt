@@ -2,7 +2,7 @@
 
 use crate::vertices::Vertices;
 use apt_plane::{Pt, Surface};
-use apt_words::{Cool, Side, Stop, Text, Turn, Units};
+use apt_words::{Command, Side, Stop, Text, Units};
 
 /// A point and its height, in grid units.
 #[derive(Clone, Copy, PartialEq, Eq)]
@@ -31,7 +31,7 @@ pub enum Reach {
 }
 
 /// What a statement says that is no motion: lengths in grid units, the feed in tenths of a length unit per
-/// minute, the spindle in turns per minute (0 with `Off`).
+/// minute, a command in whole numbers, the spindle's 0 with `Off`.
 #[derive(Drop)]
 pub enum Note {
     Partno(Text),
@@ -40,12 +40,8 @@ pub enum Note {
     Intol(i64),
     Outtol(i64),
     Feed(i64),
-    Spindle(Turn, i64),
-    Coolant(Cool),
-    Tool(i64),
+    Do(Command),
     Rapid,
-    Stop,
-    OptStop,
     End,
     Fini,
 }

@@ -2,6 +2,7 @@
 use Rattle.std.proofs.Common.{◌≡◌, ◌≤◌, ℕ, pos, Bool, true, false, List, [], ◌∷◌, ◌++◌, map, length, arith, length-append, refl, ap}
 use Rattle.std.specs.Prelude.{codes, if◌then◌else◌}
 use Rattle.std.specs.Ordering.{int_eq}
+use Rattle.apt_words.specs.declared.Command.TheVariants as commands
 use Rattle.apt_words.specs.declared.Units.TheVariants as units
 use Rattle.apt_words.specs.declared.Turn.TheVariants as turns
 use Rattle.apt_words.specs.declared.Cool.TheVariants as coolants
@@ -16,15 +17,15 @@ line_at_least (acts.Units units.Inch) = omega arith
 line_at_least (acts.Units units.Mm) = omega arith
 line_at_least (acts.Rapid x y z) = omega arith
 line_at_least (acts.Cut x y z feed) = omega arith
-line_at_least (acts.Spindle turns.Cw n) = omega arith
-line_at_least (acts.Spindle turns.Ccw n) = omega arith
-line_at_least (acts.Spindle turns.Off n) = omega arith
-line_at_least (acts.Coolant coolants.Mist) = omega arith
-line_at_least (acts.Coolant coolants.Flood) = omega arith
-line_at_least (acts.Coolant coolants.Off) = omega arith
-line_at_least (acts.Tool n) = omega arith
-line_at_least acts.Stop = omega arith
-line_at_least acts.OptStop = omega arith
+line_at_least (acts.Do (commands.Spindle turns.Cw n)) = omega arith
+line_at_least (acts.Do (commands.Spindle turns.Ccw n)) = omega arith
+line_at_least (acts.Do (commands.Spindle turns.Off n)) = omega arith
+line_at_least (acts.Do (commands.Coolant coolants.Mist)) = omega arith
+line_at_least (acts.Do (commands.Coolant coolants.Flood)) = omega arith
+line_at_least (acts.Do (commands.Coolant coolants.Off)) = omega arith
+line_at_least (acts.Do (commands.Tool n)) = omega arith
+line_at_least (acts.Do commands.Stop) = omega arith
+line_at_least (acts.Do commands.OptStop) = omega arith
 line_at_least acts.End = omega arith
 
 -- what an arc's line begins with

@@ -3,6 +3,8 @@ use Rattle.std.specs.Prelude.{ℕ, ℤ, pos, List, ◌++◌, codes, if◌then◌
 use Rattle.std.specs.List.{flat_map}
 use Rattle.std.specs.Ordering.{int_eq}
 use Rattle.std.specs.Fmt.{signed_decimal}
+use Rattle.apt_words.specs.declared.Command.{Command}
+use Rattle.apt_words.specs.declared.Command.TheVariants as commands
 use Rattle.apt_words.specs.declared.Units.TheVariants as units
 use Rattle.apt_words.specs.declared.Turn.TheVariants as turns
 use Rattle.apt_words.specs.declared.Cool.TheVariants as coolants
@@ -19,21 +21,24 @@ abbrev pub cut_line : ℤ → ℤ → ℤ → ℤ → List ℕ
 cut_line x y z feed =
     codes "CUT " ++ (signed_decimal x ++ (codes " " ++ (signed_decimal y ++ (codes " " ++ (signed_decimal z ++ (codes " FEED " ++ (signed_decimal feed ++ codes "\n")))))))
 
+abbrev pub command_line : Command → List ℕ
+command_line (commands.Spindle turns.Cw n) = codes "SPINDLE CW " ++ (signed_decimal n ++ codes "\n")
+command_line (commands.Spindle turns.Ccw n) = codes "SPINDLE CCW " ++ (signed_decimal n ++ codes "\n")
+command_line (commands.Spindle turns.Off n) = codes "SPINDLE OFF\n"
+command_line (commands.Coolant coolants.Mist) = codes "COOLANT MIST\n"
+command_line (commands.Coolant coolants.Flood) = codes "COOLANT FLOOD\n"
+command_line (commands.Coolant coolants.Off) = codes "COOLANT OFF\n"
+command_line (commands.Tool n) = codes "TOOL " ++ (signed_decimal n ++ codes "\n")
+command_line commands.Stop = codes "STOP\n"
+command_line commands.OptStop = codes "OPSTOP\n"
+
 -- the line of an act; feeds in tenths, speeds in turns per minute
 abbrev pub act_line : Act → List ℕ
 act_line (acts.Units units.Inch) = codes "UNITS INCH\n"
 act_line (acts.Units units.Mm) = codes "UNITS MM\n"
 act_line (acts.Rapid x y z) = rapid_line x y z
 act_line (acts.Cut x y z feed) = cut_line x y z feed
-act_line (acts.Spindle turns.Cw n) = codes "SPINDLE CW " ++ (signed_decimal n ++ codes "\n")
-act_line (acts.Spindle turns.Ccw n) = codes "SPINDLE CCW " ++ (signed_decimal n ++ codes "\n")
-act_line (acts.Spindle turns.Off n) = codes "SPINDLE OFF\n"
-act_line (acts.Coolant coolants.Mist) = codes "COOLANT MIST\n"
-act_line (acts.Coolant coolants.Flood) = codes "COOLANT FLOOD\n"
-act_line (acts.Coolant coolants.Off) = codes "COOLANT OFF\n"
-act_line (acts.Tool n) = codes "TOOL " ++ (signed_decimal n ++ codes "\n")
-act_line acts.Stop = codes "STOP\n"
-act_line acts.OptStop = codes "OPSTOP\n"
+act_line (acts.Do command) = command_line command
 act_line acts.End = codes "END\n"
 
 abbrev pub act_lines : List Act → List ℕ

@@ -19,12 +19,9 @@ row seq word to = record { seq = seq; word = word; to = to }
 -- ---- the points of records, which are numbered by one from a number on
 
 abbrev pub record_rows : ℕ → Record → List Row
-record_rows seq (records.Statement line step) = []
-record_rows seq (records.Note note) = []
-record_rows seq (records.Drive surface side sense) = []
-record_rows seq (records.Check surface how) = []
 record_rows seq (records.Point reach to) = row seq (word_of reach) to ∷ []
 record_rows seq (records.Contour vertices) = map (row seq (codes "CONT")) vertices
+record_rows seq _ = []
 
 abbrev pub rows_from : ℕ → List Record → List Row
 rows_from seq [] = []

@@ -35,12 +35,9 @@ point_line decimals seq word to =
 
 -- the lines of a record, by its number
 abbrev pub record_lines : ℕ → ℕ → Record → List ℕ
-record_lines decimals seq (records.Statement line step) = []
-record_lines decimals seq (records.Note note) = []
-record_lines decimals seq (records.Drive surface side sense) = []
-record_lines decimals seq (records.Check surface how) = []
 record_lines decimals seq (records.Point reach to) = point_line decimals seq (word_of reach) to
 record_lines decimals seq (records.Contour vertices) = flat_map (point_line decimals seq (codes "CONT")) vertices
+record_lines decimals seq _ = []
 
 -- records are numbered by one from a number on
 abbrev pub lines_from : ℕ → ℕ → List Record → List ℕ
@@ -48,12 +45,9 @@ lines_from decimals seq [] = []
 lines_from decimals seq (r ∷ rs) = record_lines decimals seq r ++ lines_from decimals (seq + 1) rs
 
 abbrev pub record_count : Record → ℕ
-record_count (records.Statement line step) = 0
-record_count (records.Note note) = 0
-record_count (records.Drive surface side sense) = 0
-record_count (records.Check surface how) = 0
 record_count (records.Point reach to) = 1
 record_count (records.Contour vertices) = length vertices
+record_count _ = 0
 
 -- how many points records have
 abbrev pub point_count : List Record → ℕ

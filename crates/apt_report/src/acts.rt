@@ -8,7 +8,7 @@ use apt_circular::ArcAct;
 use apt_control::Act;
 use apt_lines::{ROOM, push_from, whole_line, write_number, write_text};
 use apt_tape::TapeAct;
-use apt_words::{Cool, Turn, Units};
+use apt_words::{Command, Cool, Turn, Units};
 use std::alloc::{AllocError, Global};
 
 /// A line for each act, with its line feed. Coordinates are in grid units, feeds in tenths of an inch or of
@@ -75,19 +75,26 @@ fn act_line(room: &mut [u8], act: &Act) -> usize
             write_text(room, at, "RAPID ")
         }
         Act::Cut { x, y, z, feed } => cut_line(room, x, y, z, feed),
-        Act::Spindle { turn: Turn::Cw, n } => number_line(room, "SPINDLE CW ", n),
-        Act::Spindle { turn: Turn::Ccw, n } => number_line(room, "SPINDLE CCW ", n),
-        Act::Spindle {
-            turn: Turn::Off,
-            ..
-        } => whole_line(room, "SPINDLE OFF\n"),
-        Act::Coolant(Cool::Mist) => whole_line(room, "COOLANT MIST\n"),
-        Act::Coolant(Cool::Flood) => whole_line(room, "COOLANT FLOOD\n"),
-        Act::Coolant(Cool::Off) => whole_line(room, "COOLANT OFF\n"),
-        Act::Tool(n) => number_line(room, "TOOL ", n),
-        Act::Stop => whole_line(room, "STOP\n"),
-        Act::OptStop => whole_line(room, "OPSTOP\n"),
+        Act::Do(command) => command_line(room, command),
         Act::End => whole_line(room, "END\n"),
+    }
+}
+
+fn command_line(room: &mut [u8], command: Command) -> usize
+    requires { length room.old ≡ 192 }
+    ensures start { result ≤ 192 }
+    ensures line { drop result room.new ≡ lines.command_line command }
+{
+    match command {
+        Command::Spindle(Turn::Cw, n) => number_line(room, "SPINDLE CW ", n),
+        Command::Spindle(Turn::Ccw, n) => number_line(room, "SPINDLE CCW ", n),
+        Command::Spindle(Turn::Off, _) => whole_line(room, "SPINDLE OFF\n"),
+        Command::Coolant(Cool::Mist) => whole_line(room, "COOLANT MIST\n"),
+        Command::Coolant(Cool::Flood) => whole_line(room, "COOLANT FLOOD\n"),
+        Command::Coolant(Cool::Off) => whole_line(room, "COOLANT OFF\n"),
+        Command::Tool(n) => number_line(room, "TOOL ", n),
+        Command::Stop => whole_line(room, "STOP\n"),
+        Command::OptStop => whole_line(room, "OPSTOP\n"),
     }
 }
 

@@ -35,10 +35,10 @@ pub fn listing(alloc: Global, records: &[Record]) -> Result<PointLines, AllocErr
     ensures points { IfOk result (λ l. l.points ≡ lines.point_count records.now) }
     ensures told { AreRecords records.now → length records.now < 10 ^ 8 → IfOk result (λ l. GivesBack (units_of records.now) (rows_from 1 records.now) l.text.items) }
 {
-    list_points(alloc, records)
+    listing_value(alloc, records)
 }
 
-fn list_points(alloc: Global, records: &[Record]) -> Result<PointLines, AllocError>
+fn listing_value(alloc: Global, records: &[Record]) -> Result<PointLines, AllocError>
     ensures value { IfOk result (λ l. l.text.items ≡ lines.listing records.now) }
     ensures points { IfOk result (λ l. l.points ≡ lines.point_count records.now) }
 {

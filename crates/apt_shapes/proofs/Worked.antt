@@ -11,6 +11,7 @@ use Rattle.apt_words.specs.declared.expr.Op.TheVariants as ops
 use Rattle.apt_words.specs.declared.body.Body.{Body}
 use Rattle.apt_words.specs.declared.body.Body.TheVariants as bodies
 use Rattle.apt_words.specs.Trees.{Tree, Num, Name, Neg, Bin}
+use Rattle.apt_words.proofs.Contours.{contouring}
 use Rattle.apt_lexis.specs.Tokens.{Tokens, tokens_of}
 use Rattle.apt_expr.specs.Expressions.{expression}
 use Rattle.apt_shapes.specs.declared.table.Labelled.{Labelled}
@@ -49,19 +50,19 @@ one_coordinate : body (codes "GOTO/1") ≡ None
 unfolding shape expression word_of
 one_coordinate = refl
 
-with_tool_word : body (codes "TLRGT,GORGT/L1,PAST,L2") ≡ Some (bodies.Contour (Some sides.Right) turns.Right (codes "L1") stops.Past (codes "L2") (n 1000000))
+with_tool_word : body (codes "TLRGT,GORGT/L1,PAST,L2") ≡ Some (bodies.Contour (contouring (Some sides.Right) turns.Right (codes "L1") stops.Past (codes "L2")) (n 1000000))
 unfolding shape expression word_of
 with_tool_word = refl
 
-to_left_out : body (codes "GOFWD/L1,C1") ≡ Some (bodies.Contour None turns.Forward (codes "L1") stops.To (codes "C1") (n 1000000))
+to_left_out : body (codes "GOFWD/L1,C1") ≡ Some (bodies.Contour (contouring None turns.Forward (codes "L1") stops.To (codes "C1")) (n 1000000))
 unfolding shape expression word_of
 to_left_out = refl
 
-second_meeting : body (codes "GOFWD/L1,ON,2,INTOF,C1") ≡ Some (bodies.Contour None turns.Forward (codes "L1") stops.On (codes "C1") (n 2000000))
+second_meeting : body (codes "GOFWD/L1,ON,2,INTOF,C1") ≡ Some (bodies.Contour (contouring None turns.Forward (codes "L1") stops.On (codes "C1")) (n 2000000))
 unfolding shape expression word_of
 second_meeting = refl
 
-meeting_by_expression : body (codes "TLON,GOLFT/C1,K/2,INTOF,LY") ≡ Some (bodies.Contour (Some sides.On) turns.Left (codes "C1") stops.To (codes "LY") (Bin ops.Div (Name (codes "K")) (n 2000000)))
+meeting_by_expression : body (codes "TLON,GOLFT/C1,K/2,INTOF,LY") ≡ Some (bodies.Contour (contouring (Some sides.On) turns.Left (codes "C1") stops.To (codes "LY")) (Bin ops.Div (Name (codes "K")) (n 2000000)))
 unfolding shape expression word_of
 meeting_by_expression = refl
 

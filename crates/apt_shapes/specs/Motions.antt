@@ -86,7 +86,7 @@ count e intof = expression e >>= λ e. says words.Intof intof >>= λ _. Some e
 
 abbrev pub between : Option Side → Go → List Token → Option Stop → Option Tree → List Token → Option Body
 between side turn drive q e check =
-    name drive >>= λ drive. q >>= λ q. e >>= λ e. name check >>= λ check. Some (bodies.Contour side turn drive q check e)
+    name drive >>= λ drive. q >>= λ q. e >>= λ e. name check >>= λ check. Some (bodies.Contour (record { side = side; go = turn; drive = drive; stop = q; check = check }) e)
 
 -- s,s and s,q,s; with a count s,e,INTOF,s and s,q,e,INTOF,s, where q is not TANTO
 abbrev pub contour : Option Side → Go → List (List Token) → Option Body

@@ -6,7 +6,7 @@ ghost use Rattle.apt_shapes.specs.Motions as motions;
 use apt_expr::expression;
 use apt_geometry::arguments::{arguments, is_word, name, pair, stop, triple};
 use apt_lexis::Token;
-use apt_words::{Body, Expr, Go, Node, Side, Stop, Symbol, Word};
+use apt_words::{Body, Contouring, Expr, Go, Node, Side, Stop, Symbol, Word};
 use std::alloc::{AllocError, Global};
 
 pub(crate) fn from(alloc: Global, args: &[&[Token]]) -> Result<Option<Body>, AllocError>
@@ -165,7 +165,7 @@ fn count(alloc: Global, e: &[Token], intof: &[Token]) -> Result<Option<Expr>, Al
 
 /// A contour to so many meetings with its check surface.
 #[inline(always)]
-fn counted(
+fn contour_by(
     side: Option<Side>,
     turn: Go,
     drive: &[Token],
@@ -178,7 +178,14 @@ fn counted(
     let (Some(drive), Some(stop), Some(check)) = (name(drive), stop, name(check)) else {
         return None;
     };
-    Some(Body::Contour(side, turn, drive, stop, check, count))
+    let contour = Contouring {
+        side,
+        go: turn,
+        drive,
+        stop,
+        check,
+    };
+    Some(Body::Contour(contour, count))
 }
 
 fn between(
@@ -191,7 +198,7 @@ fn between(
 ) -> Option<Body>
     ensures { result ≡ motions.between side turn drive.now stop count check.now }
 {
-    counted(side, turn, drive, stop, count?, check)
+    contour_by(side, turn, drive, stop, count?, check)
 }
 
 /// A contour: the drive surface, and the check surface with its modifier, TO where it is left out, and with the count
@@ -217,7 +224,7 @@ fn contour(
         }
         _ => return Ok(None),
     };
-    Ok(counted(side, turn, drive, stop, once(), check))
+    Ok(contour_by(side, turn, drive, stop, once(), check))
 }
 
 /// A contour with no tool word before it.

@@ -11,7 +11,7 @@ use apt_words::{Body, Cool, Expr, Exprs, Text, Turn, Units, Word};
 use std::alloc::{AllocError, Global};
 
 /// PARTNO or REMARK with its text.
-pub(crate) fn titled(word: Word, text: Text) -> Option<Body>
+pub(crate) fn title(word: Word, text: Text) -> Option<Body>
     ensures { result ≡ settings.titled word text }
 {
     match word {

@@ -9,7 +9,7 @@ ghost use Rattle.apt_shapes.specs.Shapes as shapes;
 use crate::flow::{call, if_in, jumpto, macro_of};
 use crate::motions::{contour_behind, from, godlta, goto, onward, side_named, start};
 use crate::settings::{
-    coolnt, cutter, cycle, fedrat, intol, loadtl, machin, outtol, spindl, titled, units_in,
+    coolnt, cutter, cycle, fedrat, intol, loadtl, machin, outtol, spindl, title, units_in,
 };
 use apt_geometry::arguments::{arguments, at_comma};
 use apt_geometry::figures::{assign, circle, line, patern, point};
@@ -114,7 +114,7 @@ fn macro_alone(alloc: Global, n: &Symbol, word: Word) -> Option<Body>
 }
 
 /// A figure or a macro behind a name and an equals sign.
-fn defined(alloc: Global, n: &Symbol, tokens: &[Token]) -> Result<Option<Body>, AllocError>
+fn definition(alloc: Global, n: &Symbol, tokens: &[Token]) -> Result<Option<Body>, AllocError>
     ensures { IfOk result (λ b. b ≡ shapes.defined n.now tokens.now) }
 {
     match tokens {
@@ -134,7 +134,7 @@ fn defined_or_assigned(
 ) -> Result<Option<Body>, AllocError>
     ensures { IfOk result (λ b. b ≡ or_else (shapes.defined n.now tokens.now) (assign n.now tokens.now)) }
 {
-    match defined(alloc, n, tokens)? {
+    match definition(alloc, n, tokens)? {
         Some(body) => Ok(Some(body)),
         None => assign(alloc, n, tokens),
     }
@@ -212,7 +212,7 @@ fn with_text(tokens: &[Token], text: Text) -> Option<Body>
     ensures { result ≡ shapes.with_text tokens.now text }
 {
     match tokens {
-        [Token::Word(word)] => titled(*word, text),
+        [Token::Word(word)] => title(*word, text),
         _ => None,
     }
 }

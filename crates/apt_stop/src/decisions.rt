@@ -44,10 +44,10 @@ pub fn decide(c: &Course) -> Result<Choice, Case>
     ensures range { IfOk result (λ x. IsPoint x.end) }
     ensures end { IfOk result (λ x. IsEndOn c.now.track c.now x.end) }
 {
-    decided(c)
+    decide_value(c)
 }
 
-fn decided(c: &Course) -> Result<Choice, Case>
+fn decide_value(c: &Course) -> Result<Choice, Case>
     requires { IsCourse c.now }
     ensures { result ≡ unless (choices.course_cases c.now) (choices.choice_of c.now) }
 {

@@ -76,11 +76,11 @@ pub fn decide_legs(c: &Course, legs: Legs) -> Result<Ends, Case>
     ensures ends { IfOk result (legging.LegsEnd c.now) }
     ensures aside { legging.IsStopOfStart c.now → IfOk result (legging.LegsStopAside c.now) }
 {
-    decided(c, legs)
+    decide_legs_value(c, legs)
 }
 
 #[inline(always)]
-fn decided(c: &Course, legs: Legs) -> Result<Ends, Case>
+fn decide_legs_value(c: &Course, legs: Legs) -> Result<Ends, Case>
     requires { IsCourse c.now }
     ensures value { result ≡ unless (legging.leg_cases legs c.now) (legging.ends_of legs c.now) }
     ensures range { IfOk result legging.AreEnds }

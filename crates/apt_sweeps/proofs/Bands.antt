@@ -156,8 +156,8 @@ short_ask here (Says saying) are none = short_note (note_of here.settings.units 
 short_ask here (Sets side) are none = tt
 short_ask here (Defines name form) are none = short_defined here name form are
 short_ask here (Goes route) are none = short_route here route
-short_ask here (Cuts side go drive how check n) are none =
-    if_counted (legs_by (whole n)) (λ legs. cuts legs (motion_at here side go drive how check)) IsShort (λ legs. short_contour legs (motion_at here side go drive how check))
+short_ask here (Cuts contour n) are none =
+    if_counted (legs_by (whole n)) (λ legs. cuts legs (motion_at here contour)) IsShort (λ legs. short_contour legs (motion_at here contour))
 short_ask here Nothing are none = tt
 
 -- ---- and so are the lengths behind it

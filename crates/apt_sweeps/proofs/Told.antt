@@ -86,10 +86,10 @@ any_good here (Says saying) has = tt
 any_good here (Sets side) has = tt
 any_good here (Defines name form) has = defined_good here name form
 any_good here (Goes route) has = goes_good here route
-any_good here (Cuts side go drive how check n) has =
-    if_counted (legs_by (whole n)) (λ legs. cuts legs (motion_at here side go drive how check)) HasGoodCut
-    (λ legs. contour_good legs here (with_side here.settings side) go how here.position (surface_in here.table drive) (surface_in here.table check)
-    (any_side here.settings side has.settings) (named_surface here.table drive has.table))
+any_good here (Cuts contour n) has =
+    if_counted (legs_by (whole n)) (λ legs. cuts legs (motion_at here contour)) HasGoodCut
+    (λ legs. contour_good legs here (with_side here.settings contour.side) contour.go contour.stop here.position (surface_in here.table contour.drive) (surface_in here.table contour.check)
+    (any_side here.settings contour.side has.settings) (named_surface here.table contour.drive has.table))
 any_good here Nothing has = tt
 
 pub good_cut : (here : Situation) (deed : Deed) (e : Effect) → HasLengths here → effect_of here deed ≡ Some e → HasGoodCut e
@@ -153,8 +153,8 @@ any_fresh c here (Says saying) fine = tt
 any_fresh c here (Sets side) fine = tt
 any_fresh c here (Defines name form) fine = defined_fresh c.position here name form
 any_fresh c here (Goes route) fine = goes_fresh c here route fine
-any_fresh c here (Cuts side go drive how check n) fine =
-    if_counted (legs_by (whole n)) (λ legs. cuts legs (motion_at here side go drive how check)) (IsFresh c.position) (λ legs. cuts_fresh c.position legs (motion_at here side go drive how check))
+any_fresh c here (Cuts contour n) fine =
+    if_counted (legs_by (whole n)) (λ legs. cuts legs (motion_at here contour)) (IsFresh c.position) (λ legs. cuts_fresh c.position legs (motion_at here contour))
 any_fresh c here Nothing fine = tt
 
 pub is_fresh : (c here : Situation) (deed : Deed) (e : Effect) → refusal_of c deed ≡ None → effect_of here deed ≡ Some e → IsFresh c.position e

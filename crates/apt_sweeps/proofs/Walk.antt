@@ -25,7 +25,7 @@ use Rattle.apt_meaning.specs.Situations.{first_situation}
 use Rattle.apt_meaning.specs.Effects.{effect_of}
 use Rattle.apt_meaning.specs.Refusals.{refusal_of}
 use Rattle.apt_meaning.specs.Compiled.{ends_of, first_refused}
-use Rattle.apt_meaning.specs.Paths.{Saying, Due, Contour, nothing_said, said_behind, first_leg, next_leg, cut_on, contours_behind, contours_of, IsLegalCut, EveryContour}
+use Rattle.apt_meaning.specs.Paths.{Told, Due, Contour, nothing_said, said_behind, first_leg, next_leg, cut_on, contours_behind, contours_of, IsLegalCut, EveryContour}
 use Rattle.apt_meaning.specs.Records.{cut_record, records_of, last_behind, after, legs_from, contours_by, FollowsAs, IsAsSaid, Follows}
 use Rattle.apt_meaning.proofs.Asked.{CutsLegally}
 use Rattle.apt_meaning.proofs.Said.{said_by}
@@ -88,12 +88,8 @@ note_still at p (notes.Cutter d) = refl
 note_still at p (notes.Intol t) = refl
 note_still at p (notes.Outtol t) = refl
 note_still at p (notes.Feed f) = refl
-note_still at p (notes.Spindle turn n) = refl
-note_still at p (notes.Coolant c) = refl
-note_still at p (notes.Tool n) = refl
+note_still at p (notes.Do command) = refl
 note_still at p notes.Rapid = refl
-note_still at p notes.Stop = refl
-note_still at p notes.OptStop = refl
 note_still at p notes.End = end_still at p.ended p refl
 note_still at p notes.Fini = end_still at p.ended p refl
 
@@ -271,7 +267,7 @@ fresh_here c here (effects.Cuts m n) agrees fresh = tt
 
 -- ---- all steps, beside the compiler's situation, from which no step is refused
 
-walk : (P : Option Position → List ArcAct → List Contour → Type 0) → IsLaw P → (coming : Coming) (at : Option Position) (s : Saying) (c here : Situation) (steps : List Step) (written : List Record) (behind : Situation)
+walk : (P : Option Position → List ArcAct → List Contour → Type 0) → IsLaw P → (coming : Coming) (at : Option Position) (s : Told) (c here : Situation) (steps : List Step) (written : List Record) (behind : Situation)
     → Stands coming.moved at here.position → IsAsSaid s here → Agrees c here → HasLengths c → first_refused c steps ≡ None → FollowsAs CutsLegally here steps written behind
     → P at (arcs_from coming written) (contours_behind s written)
 walk P law coming at s c here [] written behind stands tells agrees has fine f =

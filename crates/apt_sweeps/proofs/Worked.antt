@@ -1,5 +1,6 @@
 -- The arcs of small tapes, which the checker works out.
 use Rattle.std.proofs.Common.{refl, ◌≡◌, ℤ, pos, negsuc, List, [], ◌∷◌, ◌++◌, Option, Some, None}
+use Rattle.apt_words.specs.declared.Command.TheVariants as commands
 use Rattle.apt_words.specs.declared.Side.TheVariants as sides
 use Rattle.apt_words.specs.declared.Stop.TheVariants as stops
 use Rattle.apt_plane.specs.declared.figures.Pt.{Pt}
@@ -60,6 +61,6 @@ from_nowhere : sweeps_of (Arc (negsuc 0) (pos 0) low (pos 0) (pos 0) (pos 0) (po
 from_nowhere = refl
 
 -- a rapid move leads on as a cut does, and what is no move leaves the tool
-behind_a_rapid : sweeps_of (Plain (acts.Rapid (pos 0) (pos 225000) (pos 0)) ∷ Plain acts.Stop ∷ Arc (negsuc 0) (pos 0) low (pos 0) (pos 0) (pos 0) (pos 100) ∷ [])
+behind_a_rapid : sweeps_of (Plain (acts.Rapid (pos 0) (pos 225000) (pos 0)) ∷ Plain (acts.Do commands.Stop) ∷ Arc (negsuc 0) (pos 0) low (pos 0) (pos 0) (pos 0) (pos 100) ∷ [])
     ≡ clockwise (point (pos 0) (pos 225000)) (point (pos 0) low) ∷ []
 behind_a_rapid = refl

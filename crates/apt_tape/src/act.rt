@@ -111,10 +111,8 @@ fn is_same_plain(x: Act, y: Act) -> bool
                 feed: f,
             },
         ) => x == u && y == v && z == w && feed == f,
-        (Act::Spindle { turn, n }, Act::Spindle { turn: t, n: m }) => turn == t && n == m,
-        (Act::Coolant(a), Act::Coolant(b)) => a == b,
-        (Act::Tool(a), Act::Tool(b)) => a == b,
-        (Act::Stop, Act::Stop) | (Act::OptStop, Act::OptStop) | (Act::End, Act::End) => true,
+        (Act::Do(a), Act::Do(b)) => a.is_same(b),
+        (Act::End, Act::End) => true,
         _ => false,
     }
 }

@@ -151,11 +151,10 @@ fn job(alloc: Global, from: Pt, to: Pt) -> Result<Job, AllocError>
         sense: 1,
         axis: None,
     };
-    let vertices = vec![in alloc; from, to]?;
     Ok(Job {
         leg,
         out_sign: 1,
-        points: Points { vertices },
+        points: Points::ends(from, to),
     })
 }
 

@@ -2,7 +2,7 @@
 
 use apt_control::{Act, read_tape};
 use apt_tapecode::{Code, punch};
-use apt_words::{Cool, Turn, Units};
+use apt_words::{Command, Cool, Turn, Units};
 use std::alloc::{AllocError, AllocGlobal, Global};
 use std::process::Abort;
 use std::test::Fail;
@@ -72,7 +72,7 @@ const RUNS: [(&str, &[Act]); 3] = [
                 z: 3,
                 feed: 100,
             },
-            Act::Coolant(Cool::Flood),
+            Act::Do(Command::Coolant(Cool::Flood)),
             Act::Rapid {
                 x: 40_000_000,
                 y: -2,
@@ -93,24 +93,15 @@ const RUNS: [(&str, &[Act]); 3] = [
         "%G71\nS0700M03\nS0008M04\nM05\nT09M06\nM07\nM08\nM09\nM00\nM01\nM02\n",
         &[
             Act::Units(Units::Mm),
-            Act::Spindle {
-                turn: Turn::Cw,
-                n: 700,
-            },
-            Act::Spindle {
-                turn: Turn::Ccw,
-                n: 8,
-            },
-            Act::Spindle {
-                turn: Turn::Off,
-                n: 0,
-            },
-            Act::Tool(9),
-            Act::Coolant(Cool::Mist),
-            Act::Coolant(Cool::Flood),
-            Act::Coolant(Cool::Off),
-            Act::Stop,
-            Act::OptStop,
+            Act::Do(Command::Spindle(Turn::Cw, 700)),
+            Act::Do(Command::Spindle(Turn::Ccw, 8)),
+            Act::Do(Command::Spindle(Turn::Off, 0)),
+            Act::Do(Command::Tool(9)),
+            Act::Do(Command::Coolant(Cool::Mist)),
+            Act::Do(Command::Coolant(Cool::Flood)),
+            Act::Do(Command::Coolant(Cool::Off)),
+            Act::Do(Command::Stop),
+            Act::Do(Command::OptStop),
             Act::End,
         ],
     ),

@@ -6,7 +6,7 @@ use apt_machine::Machine;
 use apt_post::{blocks, plan, tape};
 use apt_records::{Note, Record};
 use apt_tapecode::Code;
-use apt_words::Units;
+use apt_words::{Command, Units};
 use std::alloc::{AllocError, Global};
 use std::test::Fail;
 
@@ -59,7 +59,7 @@ fn writes_an_empty_tape(rt: HostRuntime) -> Result<(), Fail> {
 
 /// A tool and a move that stand alone, as blocks.
 fn two_blocks(alloc: Global) -> Result<Vec<Block>, AllocError> {
-    let acts = [Act::Tool(7), Act::Rapid { x: 1, y: -2, z: 3 }];
+    let acts = [Act::Do(Command::Tool(7)), Act::Rapid { x: 1, y: -2, z: 3 }];
     blocks(alloc, &acts, &machine(Code::Rs358, 0))
 }
 

@@ -13,6 +13,7 @@ use Rattle.apt_words.specs.declared.body.Stmt.{Stmt}
 use Rattle.apt_words.specs.declared.deed.Deed.{Deed}
 use Rattle.apt_words.specs.declared.deed.Deed.TheVariants as deeds
 use Rattle.apt_words.specs.declared.deed.Step.{Step}
+use Rattle.apt_words.proofs.Contours.{contouring}
 use Rattle.apt_scalar.specs.Scalars.{one}
 use Rattle.apt_scalar.specs.declared.names.Value.TheVariants as values
 use Rattle.apt_scalar.specs.declared.names.Kind.TheVariants as kinds
@@ -145,17 +146,17 @@ parameter_defined = refl
 
 -- ---- counts of meetings
 
-count_by_parameter : deed_of names ((Y, bounds.Scalar (units 2)) ∷ []) (bodies.Contour None turns.Forward L stops.On C (Name Y))
-    ≡ Ok (deeds.Contour None turns.Forward L stops.On C (units 2))
+count_by_parameter : deed_of names ((Y, bounds.Scalar (units 2)) ∷ []) (bodies.Contour (contouring None turns.Forward L stops.On C) (Name Y))
+    ≡ Ok (deeds.Contour (contouring None turns.Forward L stops.On C) (units 2))
 unfolding deed_of executed by_values
 count_by_parameter = refl
 
 -- a count has its value before the surfaces are looked up
-count_before_surfaces : deed_of names ((L, bounds.Scalar (units 1)) ∷ []) (bodies.Contour None turns.Forward L stops.On C (Name Y)) ≡ Err cases.Unknown
+count_before_surfaces : deed_of names ((L, bounds.Scalar (units 1)) ∷ []) (bodies.Contour (contouring None turns.Forward L stops.On C) (Name Y)) ≡ Err cases.Unknown
 unfolding deed_of executed by_values
 count_before_surfaces = refl
 
-number_for_surface : deed_of names ((L, bounds.Scalar (units 1)) ∷ []) (bodies.Contour None turns.Forward L stops.On C (number 2)) ≡ Err cases.WrongKind
+number_for_surface : deed_of names ((L, bounds.Scalar (units 1)) ∷ []) (bodies.Contour (contouring None turns.Forward L stops.On C) (number 2)) ≡ Err cases.WrongKind
 unfolding deed_of executed by_values
 number_for_surface = refl
 

@@ -51,15 +51,8 @@ abbrev pub enter : Stage → ℕ → ℕ → Parameters → Action
 enter s back first bound = Ok (deeds.Call, Some (record s { at = first; calls = record { back = back; bound = bound } ∷ s.calls }))
 
 abbrev pub parameters_at : Flow → Formal
-parameters_at Onward = []
 parameters_at (MacroBegins m ps) = ps
-parameters_at MacroEnds = []
-parameters_at (Calls m args) = []
-parameters_at LoopBegins = []
-parameters_at LoopEnds = []
-parameters_at (Jumps l) = []
-parameters_at (Branches e a b c) = []
-parameters_at ProgramEnds = []
+parameters_at _ = []
 
 abbrev pub formal_of : Option Stmt → Formal
 formal_of None = []

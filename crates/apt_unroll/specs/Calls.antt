@@ -36,12 +36,8 @@ passed_on names name (Some (bounds.Scalar v)) = None
 passed_on names name (Some (bounds.Alias other)) = Some other
 
 abbrev pub lone_name : Names → Parameters → Tree → Option (List ℕ)
-lone_name names ps (Num v) = None
 lone_name names ps (Name name) = passed_on names name (meaning ps name)
-lone_name names ps (Neg t) = None
-lone_name names ps (Bin op a b) = None
-lone_name names ps (Root t) = None
-lone_name names ps (Abs t) = None
+lone_name names ps _ = None
 
 abbrev pub or_number : Option (List ℕ) → Names → Parameters → Tree → Result Bound Case
 or_number (Some name) names ps e = Ok (bounds.Alias name)

@@ -14,38 +14,17 @@ use Rattle.apt_unroll.specs.declared.places.Region.TheVariants as regions
 -- ---- macro definitions are passed over
 
 abbrev pub begins_macro : Flow → Bool
-begins_macro Onward = false
 begins_macro (MacroBegins m ps) = true
-begins_macro MacroEnds = false
-begins_macro (Calls m args) = false
-begins_macro LoopBegins = false
-begins_macro LoopEnds = false
-begins_macro (Jumps l) = false
-begins_macro (Branches e a b c) = false
-begins_macro ProgramEnds = false
+begins_macro _ = false
 
 -- the following statement is executed
 abbrev pub goes_on : Flow → Bool
 goes_on Onward = true
-goes_on (MacroBegins m ps) = false
-goes_on MacroEnds = false
-goes_on (Calls m args) = false
-goes_on LoopBegins = false
-goes_on LoopEnds = false
-goes_on (Jumps l) = false
-goes_on (Branches e a b c) = false
-goes_on ProgramEnds = false
+goes_on _ = false
 
 abbrev pub ends_macro : Flow → Bool
-ends_macro Onward = false
-ends_macro (MacroBegins m ps) = false
 ends_macro MacroEnds = true
-ends_macro (Calls m args) = false
-ends_macro LoopBegins = false
-ends_macro LoopEnds = false
-ends_macro (Jumps l) = false
-ends_macro (Branches e a b c) = false
-ends_macro ProgramEnds = false
+ends_macro _ = false
 
 -- the number of the first statement behind macro definitions, among statements from the i-th on; within one to begin with, or not
 abbrev pub behind_macros : Bool → ℕ → List Stmt → ℕ
@@ -85,26 +64,15 @@ none_open = record { in_loop = None; in_macro = None }
 
 -- what is open behind the i-th statement
 abbrev pub open_behind : ℕ → Flow → Open → Open
-open_behind i Onward before = before
 open_behind i (MacroBegins m ps) before = record before { in_macro = Some i }
 open_behind i MacroEnds before = record before { in_macro = None }
-open_behind i (Calls m args) before = before
 open_behind i LoopBegins before = record before { in_loop = Some i }
 open_behind i LoopEnds before = record before { in_loop = None }
-open_behind i (Jumps l) before = before
-open_behind i (Branches e a b c) before = before
-open_behind i ProgramEnds before = before
+open_behind i _ before = before
 
 abbrev pub loop_with : ℕ → Flow → Option ℕ → Option ℕ
-loop_with i Onward before = before
-loop_with i (MacroBegins m ps) before = before
-loop_with i MacroEnds before = before
-loop_with i (Calls m args) before = before
 loop_with i LoopBegins before = Some i
-loop_with i LoopEnds before = before
-loop_with i (Jumps l) before = before
-loop_with i (Branches e a b c) before = before
-loop_with i ProgramEnds before = before
+loop_with i _ before = before
 
 -- a macro's body is no part of the loop in which it is defined
 abbrev pub innermost : Option ℕ → Option ℕ → Region

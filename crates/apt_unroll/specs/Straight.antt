@@ -15,14 +15,8 @@ use Rattle.apt_unroll.specs.Trace.{Trace, empty_trace, refused, with_step}
 
 abbrev pub IsStraight : Flow → List Stmt → Type 0 → Type 0
 IsStraight Onward rest more = more
-IsStraight (MacroBegins m ps) rest more = ⊥
-IsStraight MacroEnds rest more = ⊥
-IsStraight (Calls m args) rest more = ⊥
-IsStraight LoopBegins rest more = ⊥
-IsStraight LoopEnds rest more = ⊥
-IsStraight (Jumps l) rest more = ⊥
-IsStraight (Branches e a b c) rest more = ⊥
 IsStraight ProgramEnds rest more = rest ≡ []
+IsStraight _ rest more = ⊥
 
 -- no macro, call, loop or jump stands up to FINI, which stands last
 abbrev pub AreStraight : List Stmt → Type 0

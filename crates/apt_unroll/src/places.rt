@@ -254,6 +254,7 @@ impl<'a> Listing<'a> {
     {
         match &self.tables {
             Some(tables) => tables,
+            // The tables are made.
             None => unreachable!(),
         }
     }
@@ -269,7 +270,7 @@ impl<'a> Listing<'a> {
 
     /// The statement that is executed where a run comes to a number, with its own number.
     #[tactic(auto, using(crate::proofs::Tables::runs, crate::proofs::Tables::runs_out, crate::proofs::Tables::runs_past, crate::proofs::Tables::no_macro))]
-    pub(crate) fn executed(&self, at: usize) -> Option<(usize, &'a Stmt)>
+    pub(crate) fn statement_at(&self, at: usize) -> Option<(usize, &'a Stmt)>
         requires { self.now.made ≡ true }
         ensures value { option_map (λ r. (r.0, r.1.now)) result ≡ trace.with_number (spec.executed_from self.now.stmts at) (slice_get self.now.stmts (spec.executed_from self.now.stmts at)) }
         ensures small { IfSome result (λ r. r.0 < 2 ^ 63) }
@@ -316,6 +317,7 @@ impl<'a> Listing<'a> {
                     ..
                 },
             ) => params,
+            // The statement begins a macro.
             _ => unreachable!(),
         }
     }

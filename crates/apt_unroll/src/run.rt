@@ -151,6 +151,7 @@ impl Run {
                     Ok(self.jump_to(listing.target(i, label), Deed::If))
                 }
             },
+            // The statement leads elsewhere.
             _ => unreachable!(),
         }
     }

@@ -64,10 +64,10 @@ pub fn unroll(alloc: Global, p: &Program) -> Result<Unrolled, AllocError>
     ensures numbers { IfOk result (λ u. AreNumbered 1 u.steps) }
     ensures ends { IfOk result (λ u. u.fault ≡ None → StepsEnd false u.steps) }
 {
-    unroll_all(alloc, p)
+    unroll_value(alloc, p)
 }
 
-fn unroll_all(alloc: Global, p: &Program) -> Result<Unrolled, AllocError>
+fn unroll_value(alloc: Global, p: &Program) -> Result<Unrolled, AllocError>
     ensures { IfOk result (λ u. u ≡ trace_of p.now) }
 {
     let mut listing = Listing::new(p);
@@ -148,7 +148,7 @@ fn step_behind_macros(alloc: Global, listing: &mut Listing, run: &mut Run, step:
     if listing.make(alloc).is_err() {
         return Next::NoMemory;
     }
-    match listing.executed(run.at()) {
+    match listing.statement_at(run.at()) {
         None => Next::Out,
         Some((i, stmt)) => step_at(alloc, listing, run, step, i, stmt),
     }

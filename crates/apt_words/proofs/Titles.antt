@@ -47,7 +47,7 @@ asked_title (Says saying) = 0
 asked_title (Sets side) = 0
 asked_title (Defines name form) = 0
 asked_title (Goes route) = 0
-asked_title (Cuts side go drive how check n) = 0
+asked_title (Cuts contour n) = 0
 asked_title Nothing = 0
 
 abbrev pub title_length : Deed → ℕ
@@ -59,9 +59,6 @@ title_lengths (step ∷ steps) = title_length step.deed + title_lengths steps
 
 none_untitled : (deed : Deed) → DeedIsUntitled deed → title_length deed ≡ 0
 none_untitled (deeds.Partno text) h = absurd h
-none_untitled (deeds.Spindl n turns.Cw) h = refl
-none_untitled (deeds.Spindl n turns.Ccw) h = refl
-none_untitled (deeds.Spindl n turns.Off) h = refl
 none_untitled _ h = refl
 
 title_short : (ask : Ask) → AskHasText ask → asked_title ask ≤ 256

@@ -1,6 +1,7 @@
 -- What steps ask for, and the one table that says so of each statement.
 use Rattle.std.specs.Prelude.{ℕ, ℤ, Bool, true, false, List, [], ◌∷◌, Option, Some, None}
-use Rattle.apt_words.specs.declared.Go.{Go}
+use Rattle.apt_words.specs.declared.Command.{Command}
+use Rattle.apt_words.specs.declared.Command.TheVariants as commands
 use Rattle.apt_words.specs.declared.Side.{Side}
 use Rattle.apt_words.specs.declared.Stop.{Stop}
 use Rattle.apt_words.specs.declared.Turn.TheVariants as turns
@@ -22,6 +23,7 @@ use Rattle.apt_words.specs.declared.ask.Saying.{Saying}
 use Rattle.apt_words.specs.declared.ask.Saying.TheVariants as sayings
 use Rattle.apt_words.specs.declared.deed.Deed.{Deed}
 use Rattle.apt_words.specs.declared.deed.Deed.TheVariants as deeds
+use Rattle.apt_words.specs.declared.contour.Contouring.{Contouring}
 
 -- a title is given, a note is said, the side of the cutter is set, a name is defined, the tool comes to a place, a contour is cut, or nothing
 pub data Ask : Type 0 where
@@ -30,7 +32,7 @@ pub data Ask : Type 0 where
   Sets : Side → Ask
   Defines : List ℕ → Form → Ask
   Goes : Route → Ask
-  Cuts : Option Side → Go → List ℕ → Stop → List ℕ → ℤ → Ask
+  Cuts : Contouring → ℤ → Ask
   Nothing : Ask
 
 -- an ask of the program, with the text of its title
@@ -40,7 +42,7 @@ seen (shown.Says saying) = Says saying
 seen (shown.Sets side) = Sets side
 seen (shown.Defines name form) = Defines name form
 seen (shown.Goes route) = Goes route
-seen (shown.Cuts side go drive how check n) = Cuts side go drive how check n
+seen (shown.Cuts contour n) = Cuts contour.now n
 seen shown.Nothing = Nothing
 
 -- ---- the table of statements
@@ -80,19 +82,12 @@ ask_of (deeds.GotoXy x y z) = Goes (routes.Goto (places.Xyz x y z))
 ask_of (deeds.GotoPoint p) = Goes (routes.Goto (places.Named p))
 ask_of (deeds.Godlta x y z) = Goes (routes.By x y z)
 ask_of (deeds.GoStart how s other) = Goes (routes.Start how s other)
-ask_of (deeds.Contour side go d how c n) = Cuts side go d how c n
+ask_of (deeds.Contour contour n) = Cuts contour n
 ask_of deeds.Rapid = Says sayings.Rapid
-ask_of deeds.Halt = Says sayings.Stop
-ask_of deeds.OptHalt = Says sayings.OptStop
 ask_of deeds.EndWord = Says sayings.End
 ask_of deeds.Fini = Says sayings.Fini
 ask_of (deeds.Fedrat v) = Says (sayings.Feed v)
-ask_of (deeds.Spindl n turns.Cw) = Says (sayings.Clockwise n)
-ask_of (deeds.Spindl n turns.Ccw) = Says (sayings.Anticlockwise n)
-ask_of (deeds.Spindl n turns.Off) = Says sayings.SpindleOff
-ask_of deeds.SpindlOff = Says sayings.SpindleOff
-ask_of (deeds.Coolnt cool) = Says (sayings.Coolant cool)
-ask_of (deeds.Loadtl n) = Says (sayings.Tool n)
+ask_of (deeds.Do command) = Says (sayings.Do command)
 ask_of (deeds.Patern n p q v) = Nothing
 ask_of (deeds.CycleDrill d c) = Nothing
 ask_of deeds.CycleOff = Nothing
@@ -110,32 +105,19 @@ ask_of deeds.If = Nothing
 -- what is said, where something is
 abbrev pub said_by : Ask → Option Saying
 said_by (Says saying) = Some saying
-said_by (Titles text) = None
-said_by (Sets side) = None
-said_by (Defines name form) = None
-said_by (Goes route) = None
-said_by (Cuts side go drive how check n) = None
-said_by Nothing = None
+said_by _ = None
 
 -- the name that is defined, and by what, where one is
 abbrev pub defined_by : Ask → Option (List ℕ × Form)
 defined_by (Defines name form) = Some (name, form)
-defined_by (Titles text) = None
-defined_by (Says saying) = None
-defined_by (Sets side) = None
-defined_by (Goes route) = None
-defined_by (Cuts side go drive how check n) = None
-defined_by Nothing = None
+defined_by _ = None
 
 -- something is said, a name is defined, or nothing
 abbrev pub IsPlain : Ask → Type 0
 IsPlain (Says saying) = Unit {0}
 IsPlain (Defines name form) = Unit {0}
 IsPlain Nothing = Unit {0}
-IsPlain (Titles text) = ⊥
-IsPlain (Sets side) = ⊥
-IsPlain (Goes route) = ⊥
-IsPlain (Cuts side go drive how check n) = ⊥
+IsPlain _ = ⊥
 
 -- ---- the numbers of an ask, in millionths, in their order
 
@@ -151,12 +133,8 @@ point_numbers (points.Centre c) = []
 
 abbrev pub line_numbers : LineForm → List ℤ
 line_numbers (lines.Xy x y u v) = x ∷ y ∷ u ∷ v ∷ []
-line_numbers (lines.Points p q) = []
-line_numbers (lines.Parallel p l) = []
-line_numbers (lines.Square p l) = []
 line_numbers (lines.Beside l k v) = v ∷ []
-line_numbers (lines.Past p h c) = []
-line_numbers (lines.PastTwo h c k d) = []
+line_numbers _ = []
 
 abbrev pub circle_numbers : CircleForm → List ℤ
 circle_numbers (circles.Xyr x y r) = x ∷ y ∷ r ∷ []
@@ -172,22 +150,19 @@ form_numbers (forms.Point form) = point_numbers form
 form_numbers (forms.Line form) = line_numbers form
 form_numbers (forms.Circle form) = circle_numbers form
 
+abbrev pub command_numbers : Command → List ℤ
+command_numbers (commands.Spindle turns.Cw n) = n ∷ []
+command_numbers (commands.Spindle turns.Ccw n) = n ∷ []
+command_numbers (commands.Tool n) = n ∷ []
+command_numbers _ = []
+
 abbrev pub saying_numbers : Saying → List ℤ
-saying_numbers (sayings.Units units) = []
 saying_numbers (sayings.Diameter v) = v ∷ []
 saying_numbers (sayings.Inward v) = v ∷ []
 saying_numbers (sayings.Outward v) = v ∷ []
 saying_numbers (sayings.Feed v) = v ∷ []
-saying_numbers (sayings.Clockwise n) = n ∷ []
-saying_numbers (sayings.Anticlockwise n) = n ∷ []
-saying_numbers sayings.SpindleOff = []
-saying_numbers (sayings.Coolant cool) = []
-saying_numbers (sayings.Tool n) = n ∷ []
-saying_numbers sayings.Rapid = []
-saying_numbers sayings.Stop = []
-saying_numbers sayings.OptStop = []
-saying_numbers sayings.End = []
-saying_numbers sayings.Fini = []
+saying_numbers (sayings.Do command) = command_numbers command
+saying_numbers _ = []
 
 abbrev pub place_numbers : Place → List ℤ
 place_numbers (places.Xyz x y z) = x ∷ y ∷ listed z
@@ -205,33 +180,15 @@ numbers_of (Says saying) = saying_numbers saying
 numbers_of (Sets side) = []
 numbers_of (Defines n form) = form_numbers form
 numbers_of (Goes route) = route_numbers route
-numbers_of (Cuts side go drive how check n) = n ∷ []
+numbers_of (Cuts contour n) = n ∷ []
 numbers_of Nothing = []
 
 -- ---- the end of a program
 
 abbrev pub is_end : Saying → Bool
-is_end (sayings.Units units) = false
-is_end (sayings.Diameter v) = false
-is_end (sayings.Inward v) = false
-is_end (sayings.Outward v) = false
-is_end (sayings.Feed v) = false
-is_end (sayings.Clockwise n) = false
-is_end (sayings.Anticlockwise n) = false
-is_end sayings.SpindleOff = false
-is_end (sayings.Coolant cool) = false
-is_end (sayings.Tool n) = false
-is_end sayings.Rapid = false
-is_end sayings.Stop = false
-is_end sayings.OptStop = false
 is_end sayings.End = true
-is_end sayings.Fini = false
+is_end _ = false
 
 abbrev pub asks_end : Ask → Bool
-asks_end (Titles text) = false
 asks_end (Says saying) = is_end saying
-asks_end (Sets side) = false
-asks_end (Defines n form) = false
-asks_end (Goes route) = false
-asks_end (Cuts side go drive how check n) = false
-asks_end Nothing = false
+asks_end _ = false

@@ -1,9 +1,11 @@
 -- What a statement is made of, before it is executed.
-use Rattle.std.specs.Prelude.{ℕ, ℤ, Bool, List, [], ◌∷◌, Option, Some, None, option_map}
+use Rattle.std.specs.Prelude.{ℕ, ℤ, pos, Bool, List, [], ◌∷◌, Option, Some, None, option_map}
+use Rattle.apt_words.specs.declared.Command.TheVariants as commands
 use Rattle.apt_words.specs.Asks.{listed}
 use Rattle.apt_words.specs.Flow.{Flow, Onward, MacroBegins, MacroEnds, Calls, LoopBegins, LoopEnds, Jumps, Branches, ProgramEnds, ends_program}
 use Rattle.apt_words.specs.Trees.{Tree}
 use Rattle.apt_words.specs.declared.Stop.{Stop}
+use Rattle.apt_words.specs.declared.Turn.TheVariants as turns
 use Rattle.apt_words.specs.declared.body.Body.{Body}
 use Rattle.apt_words.specs.declared.body.Body.TheVariants as bodies
 use Rattle.apt_words.specs.declared.deed.Deed.{Deed}
@@ -108,17 +110,17 @@ composition (bodies.GotoXy x y z) = of_numbers (x ∷ y ∷ listed z) (λ v. dee
 composition (bodies.GotoPoint p) = or_pattern (λ m. deeds.GotoPatern (m 0)) (of_names (p ∷ []) (λ m. deeds.GotoPoint (m 0)))
 composition (bodies.Godlta x y z) = of_numbers (x ∷ y ∷ z ∷ []) (λ v. deeds.Godlta (v 0) (v 1) (v 2))
 composition (bodies.GoStart q s other) = of_names (names_with s other) (λ m. deeds.GoStart q (m 0) (surface_by other (m 1)))
-composition (bodies.Contour side go d q c e) = of_both (e ∷ []) (d ∷ c ∷ []) (λ v m. deeds.Contour side go (m 0) q (m 1) (v 0))
+composition (bodies.Contour contour e) = of_both (e ∷ []) (contour.drive ∷ contour.check ∷ []) (λ v m. deeds.Contour (record contour { drive = m 0; check = m 1 }) (v 0))
 composition bodies.Rapid = words_alone deeds.Rapid
-composition bodies.Halt = words_alone deeds.Halt
-composition bodies.OptHalt = words_alone deeds.OptHalt
+composition bodies.Halt = words_alone (deeds.Do commands.Stop)
+composition bodies.OptHalt = words_alone (deeds.Do commands.OptStop)
+composition bodies.SpindlOff = words_alone (deeds.Do (commands.Spindle turns.Off (pos 0)))
+composition (bodies.Coolnt cool) = words_alone (deeds.Do (commands.Coolant cool))
 composition bodies.EndWord = words_alone deeds.EndWord
 composition bodies.Fini = flowing ProgramEnds deeds.Fini
 composition (bodies.Fedrat e) = of_number e deeds.Fedrat
-composition (bodies.Spindl e turn) = of_number e (λ v. deeds.Spindl v turn)
-composition bodies.SpindlOff = words_alone deeds.SpindlOff
-composition (bodies.Coolnt c) = words_alone (deeds.Coolnt c)
-composition (bodies.Loadtl e) = of_number e deeds.Loadtl
+composition (bodies.Spindl e turn) = of_number e (λ v. deeds.Do (commands.Spindle turn v))
+composition (bodies.Loadtl e) = of_number e (λ v. deeds.Do (commands.Tool v))
 composition (bodies.Patern n p q e) = defining n (of_both (e ∷ []) (p ∷ q ∷ []) (λ v m. deeds.Patern n (m 0) (m 1) (v 0)))
 composition (bodies.CycleDrill d c) = of_numbers (d ∷ c ∷ []) (λ v. deeds.CycleDrill (v 0) (v 1))
 composition bodies.CycleOff = words_alone deeds.CycleOff

@@ -5,13 +5,8 @@ use Rattle.apt_words.specs.declared.deed.Step.{Step}
 
 -- 1 for a contour
 abbrev pub contour_by : Ask → ℕ
-contour_by (Titles text) = 0
-contour_by (Says saying) = 0
-contour_by (Sets side) = 0
-contour_by (Defines name form) = 0
-contour_by (Goes route) = 0
-contour_by (Cuts side go drive how check n) = 1
-contour_by Nothing = 0
+contour_by (Cuts contour n) = 1
+contour_by _ = 0
 
 abbrev pub contours : List Step → ℕ
 contours [] = 0

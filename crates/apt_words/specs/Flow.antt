@@ -17,24 +17,10 @@ pub data Flow : Type 0 where
 -- ---- FINI and macros
 
 abbrev pub ends_program : Flow → Bool
-ends_program Onward = false
-ends_program (MacroBegins m ps) = false
-ends_program MacroEnds = false
-ends_program (Calls m args) = false
-ends_program LoopBegins = false
-ends_program LoopEnds = false
-ends_program (Jumps l) = false
-ends_program (Branches e a b c) = false
 ends_program ProgramEnds = true
+ends_program _ = false
 
 -- the name of the macro that a statement begins
 abbrev pub macro_name : Flow → Option (List ℕ)
-macro_name Onward = None
 macro_name (MacroBegins m ps) = Some m
-macro_name MacroEnds = None
-macro_name (Calls m args) = None
-macro_name LoopBegins = None
-macro_name LoopEnds = None
-macro_name (Jumps l) = None
-macro_name (Branches e a b c) = None
-macro_name ProgramEnds = None
+macro_name _ = None

@@ -41,12 +41,7 @@ AreStmts (st ∷ sts) = IsStmt st × AreStmts sts
 
 abbrev pub AskHasText : Ask → Type 0
 AskHasText (Titles text) = IsTitle text
-AskHasText (Says saying) = Unit {0}
-AskHasText (Sets side) = Unit {0}
-AskHasText (Defines n form) = Unit {0}
-AskHasText (Goes route) = Unit {0}
-AskHasText (Cuts side go drive how check n) = Unit {0}
-AskHasText Nothing = Unit {0}
+AskHasText _ = Unit {0}
 
 abbrev pub DeedHasText : Deed → Type 0
 DeedHasText deed = AskHasText (ask_of deed)

@@ -85,9 +85,5 @@ trees-parts (Bin op a b) more ts = trees-parts a _ ts ∙ trees-right op b _ mor
 
 -- the name that a tree is
 abbrev pub lone_name : Tree → Option (List ℕ)
-lone_name (Num v) = None
 lone_name (Name name) = Some name
-lone_name (Neg t) = None
-lone_name (Bin op a b) = None
-lone_name (Root t) = None
-lone_name (Abs t) = None
+lone_name _ = None

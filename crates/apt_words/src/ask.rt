@@ -2,7 +2,7 @@
 ghost use Rattle.std.specs.Prelude.{◌≡◌, Some};
 ghost use Rattle.apt_words.specs.Asks.{IsPlain, ask_of, defined_by, said_by, seen};
 
-use crate::{Cool, Deed, Go, Pick, Side, Stop, Symbol, Text, Turn, Units};
+use crate::{Command, Contouring, Deed, Pick, Side, Stop, Symbol, Text, Units};
 
 /// How a point is defined. Numbers are in millionths.
 #[derive(Drop)]
@@ -75,22 +75,10 @@ pub enum Saying {
     Outward(i64),
     /// The feed.
     Feed(i64),
-    /// The spindle turns clockwise, so often in a minute.
-    Clockwise(i64),
-    /// The spindle turns anticlockwise, so often in a minute.
-    Anticlockwise(i64),
-    /// The spindle stands still.
-    SpindleOff,
-    /// The coolant.
-    Coolant(Cool),
-    /// The tool of a number.
-    Tool(i64),
+    /// What the machine is to do.
+    Do(Command),
     /// The next move is rapid.
     Rapid,
-    /// The machine stops.
-    Stop,
-    /// The machine stops where its operator wants it.
-    OptStop,
     /// The end of the tape.
     End,
     /// The end of the program.
@@ -117,8 +105,7 @@ pub enum Route {
     Start(Stop, Symbol, Option<(Stop, Symbol)>),
 }
 
-/// What a step asks for. A contour runs along its drive surface, from a turn on, with the cutter on a side where its
-/// statement sets one, and stops at its check surface, where it meets it for the n-th time, with n in millionths.
+/// What a step asks for.
 #[derive(Drop)]
 pub enum Ask<'a> {
     /// The part has a title.
@@ -131,8 +118,8 @@ pub enum Ask<'a> {
     Defines(Symbol, Form),
     /// The tool comes to a place.
     Goes(Route),
-    /// A contour is cut.
-    Cuts(Option<Side>, Go, Symbol, Stop, Symbol, i64),
+    /// A contour is cut until it meets its check surface for the n-th time, with n in millionths.
+    Cuts(&'a Contouring, i64),
     /// Nothing.
     Nothing,
 }
@@ -150,16 +137,10 @@ impl Deed {
             Deed::Intol(v) => Some(Saying::Inward(*v)),
             Deed::Outtol(v) => Some(Saying::Outward(*v)),
             Deed::Rapid => Some(Saying::Rapid),
-            Deed::Halt => Some(Saying::Stop),
-            Deed::OptHalt => Some(Saying::OptStop),
             Deed::EndWord => Some(Saying::End),
             Deed::Fini => Some(Saying::Fini),
             Deed::Fedrat(v) => Some(Saying::Feed(*v)),
-            Deed::Spindl(n, Turn::Cw) => Some(Saying::Clockwise(*n)),
-            Deed::Spindl(n, Turn::Ccw) => Some(Saying::Anticlockwise(*n)),
-            Deed::Spindl(_, Turn::Off) | Deed::SpindlOff => Some(Saying::SpindleOff),
-            Deed::Coolnt(cool) => Some(Saying::Coolant(*cool)),
-            Deed::Loadtl(n) => Some(Saying::Tool(*n)),
+            Deed::Do(command) => Some(Saying::Do(*command)),
             _ => None,
         }
     }
@@ -208,7 +189,7 @@ impl Deed {
             Deed::GotoPoint(p) => Ask::Goes(Route::Goto(Place::Named(p.copied()))),
             Deed::Godlta(x, y, z) => Ask::Goes(Route::By(*x, *y, *z)),
             Deed::GoStart(how, s, other) => Ask::Goes(start(*how, s, other)),
-            Deed::Contour(side, go, d, how, c, n) => Ask::Cuts(*side, *go, d.copied(), *how, c.copied(), *n),
+            Deed::Contour(contour, n) => Ask::Cuts(contour, *n),
             _ => self.plainly(),
         }
     }

@@ -3,7 +3,7 @@
 ghost use Rattle.std.specs.Prelude.{◌≡◌, IfOk};
 ghost use Rattle.apt_words.specs.Composition.{is_fini};
 
-use crate::{Cool, Expr, Go, Pick, Side, Stop, Symbol, Turn, Units};
+use crate::{Contouring, Cool, Expr, Pick, Side, Stop, Symbol, Turn, Units};
 use std::alloc::{AllocError, Global};
 use std::marker::Model;
 
@@ -199,7 +199,7 @@ pub enum Body {
     /// `GO/q,s` or `GO/q,s,q,s`.
     GoStart(Stop, Symbol, Option<(Stop, Symbol)>),
     /// `GOLFT/s,q,e,INTOF,s`, `GORGT`, `GOFWD` or `GOBACK`, behind a side or not. A count that is left out is the number 1.
-    Contour(Option<Side>, Go, Symbol, Stop, Symbol, Expr),
+    Contour(Contouring, Expr),
     /// `RAPID`.
     Rapid,
     /// `STOP`.

@@ -1,5 +1,5 @@
 //! Executed statements.
-use crate::{Cool, Go, Pick, Side, Stop, Symbol, Text, Turn, Units};
+use crate::{Command, Contouring, Pick, Side, Stop, Symbol, Text, Units};
 
 /// What a step does: a statement's words, with a value in millionths in place of each expression, and
 /// for a parameter of a macro what it stands for.
@@ -74,27 +74,17 @@ pub enum Deed {
     /// `GO/q,s` or `GO/q,s,q,s`.
     GoStart(Stop, Symbol, Option<(Stop, Symbol)>),
     /// `GOLFT/s,q,e,INTOF,s`, `GORGT`, `GOFWD` or `GOBACK`, behind a side or not.
-    Contour(Option<Side>, Go, Symbol, Stop, Symbol, i64),
+    Contour(Contouring, i64),
     /// `RAPID`.
     Rapid,
-    /// `STOP`.
-    Halt,
-    /// `OPSTOP`.
-    OptHalt,
     /// `END`.
     EndWord,
     /// `FINI`.
     Fini,
     /// `FEDRAT/e`.
     Fedrat(i64),
-    /// `SPINDL/e` with `CLW` or `CCLW`.
-    Spindl(i64, Turn),
-    /// `SPINDL/OFF`.
-    SpindlOff,
-    /// `COOLNT/` with `MIST`, `FLOOD` or `OFF`.
-    Coolnt(Cool),
-    /// `LOADTL/e`.
-    Loadtl(i64),
+    /// `SPINDL`, `COOLNT`, `LOADTL`, `STOP` or `OPSTOP`.
+    Do(Command),
     /// `n=PATERN/LINEAR,p,p,e`.
     Patern(Symbol, Symbol, Symbol, i64),
     /// `CYCLE/DRILL,e,e`.

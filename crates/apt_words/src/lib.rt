@@ -3,6 +3,8 @@
 
 mod ask;
 mod body;
+mod commands;
+mod contour;
 mod deed;
 mod drill;
 mod expr;
@@ -13,6 +15,7 @@ mod word;
 
 pub use ask::{Ask, CircleForm, Form, LineForm, Place, PointForm, Route, Saying};
 pub use body::{Args, Body, Exprs, Params, Program, Stmt, Text, Xy};
+pub use contour::Contouring;
 pub use deed::{Deed, Step};
 pub use drill::Drill;
 pub use expr::{Expr, Node, Op};
@@ -41,6 +44,22 @@ pub enum Cool {
     Mist,
     Flood,
     Off,
+}
+
+/// A command to the machine. How often the spindle turns in a minute, and the number of a tool, are in millionths where a
+/// statement gives them, and whole numbers in records and acts.
+#[derive(Clone, Copy, PartialEq, Eq)]
+pub enum Command {
+    /// The spindle turns so often in a minute, or stands still.
+    Spindle(Turn, i64),
+    /// The coolant.
+    Coolant(Cool),
+    /// The tool of a number.
+    Tool(i64),
+    /// The machine stops.
+    Stop,
+    /// The machine stops where its operator wants it.
+    OptStop,
 }
 
 /// The side of the cutter, seen along the motion.

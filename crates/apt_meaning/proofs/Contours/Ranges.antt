@@ -87,10 +87,10 @@ made_by here (Says saying) is = tt
 made_by here (Sets side) is = tt
 made_by here (Defines name form) is = defined_made here name form
 made_by here (Goes route) is = goes_made here route
-made_by here (Cuts side go drive how check n) is =
-    if_counted (legs_by (whole n)) (λ legs. cuts legs (motion_at here side go drive how check)) HasMotion
-    (λ legs. contour_made legs (with_side here.settings side) here.forward go how here.position (surface_in here.table drive) (surface_in here.table check)
-    (on_side_or_as_it_was here.settings side is.settings) is.position (named_surface here.table drive is.table) (named_surface here.table check is.table))
+made_by here (Cuts contour n) is =
+    if_counted (legs_by (whole n)) (λ legs. cuts legs (motion_at here contour)) HasMotion
+    (λ legs. contour_made legs (with_side here.settings contour.side) here.forward contour.go contour.stop here.position (surface_in here.table contour.drive) (surface_in here.table contour.check)
+    (on_side_or_as_it_was here.settings contour.side is.settings) is.position (named_surface here.table contour.drive is.table) (named_surface here.table contour.check is.table))
 made_by here Nothing is = tt
 
 pub made : (here : Situation) (deed : Deed) → IsSituation here → IfSome (effect_of here deed) HasMotion

@@ -115,12 +115,12 @@ like here stand forward (Says saying) = refl
 like here stand forward (Sets side) = refl
 like here stand forward (Defines name form) = defined_like here stand forward name form
 like here stand forward (Goes route) = goes_like here stand forward route
-like here stand forward (Cuts side go drive how check n) = counted_like (legs_by (whole n))
+like here stand forward (Cuts contour n) = counted_like (legs_by (whole n))
   where
     counted_like : (o : Option Legs)
-        → AreLikeIfThere (o >>= λ legs. cuts legs (motion_at here side go drive how check)) (o >>= λ legs. cuts legs (motion_at (elsewhere here stand forward) side go drive how check))
+        → AreLikeIfThere (o >>= λ legs. cuts legs (motion_at here contour)) (o >>= λ legs. cuts legs (motion_at (elsewhere here stand forward) contour))
     counted_like None = tt
-    counted_like (Some legs) = contour_like legs (with_side here.settings side) here.forward forward go how here.position stand (surface_in here.table drive) (surface_in here.table check)
+    counted_like (Some legs) = contour_like legs (with_side here.settings contour.side) here.forward forward contour.go contour.stop here.position stand (surface_in here.table contour.drive) (surface_in here.table contour.check)
 like here stand forward Nothing = refl
 
 is_elsewhere : (c here : Situation) → Agrees c here → here ≡ elsewhere c here.position here.forward

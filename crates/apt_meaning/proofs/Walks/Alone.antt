@@ -35,7 +35,7 @@ use Rattle.apt_stop.specs.declared.legs.Legs.TheVariants as legs
 use Rattle.apt_meaning.specs.Motions.{grid_step}
 use Rattle.apt_stop.specs.Legs.{leg_count}
 use Rattle.apt_meaning.specs.Effects.{effect_of}
-use Rattle.apt_meaning.specs.Paths.{Drive, Due, Saying, first_leg, next_leg, due_behind, cut_on, nothing_said, is_nowhere, forward_to, forward_on, forward_there, with_point, counted, radius_by, Contour, at_points, last_position, motion_said, contour_said, with_note, with_record, said_behind, contours_behind, contours_of, IsLegalCut, EveryContour}
+use Rattle.apt_meaning.specs.Paths.{Drive, Due, Told, first_leg, next_leg, due_behind, cut_on, nothing_said, is_nowhere, forward_to, forward_on, forward_there, with_point, counted, radius_by, Contour, at_points, last_position, motion_said, contour_said, with_note, with_record, said_behind, contours_behind, contours_of, IsLegalCut, EveryContour}
 use Rattle.apt_meaning.specs.Records.{cut_record, records_of, last_behind, cut_at, after, legs_from, contours_by, MayHave, FollowsAs, HasAny, IsAsSaid, Follows}
 use Rattle.apt_meaning.specs.Cuts.{IsOwnCut}
 use Rattle.apt_meaning.proofs.Said.{IsMotionOf, said_by as effect_said}
@@ -47,19 +47,15 @@ use Rattle.apt_meaning.proofs.Walks.Begins.{both}
 pub nothing_tells : IsAsSaid nothing_said first_situation
 nothing_tells = record { units = refl; radius = refl; intol = refl; outtol = refl; feed = refl; rapid = refl; position = refl; forward = refl }
 
-note_tells : (s : Saying) (here : Situation) (note : Note) → IsAsSaid s here → IsAsSaid (with_note s note) (record here { settings = settings_with here.settings note })
+note_tells : (s : Told) (here : Situation) (note : Note) → IsAsSaid s here → IsAsSaid (with_note s note) (record here { settings = settings_with here.settings note })
 note_tells s here (notes.Partno text) t = t
 note_tells s here (notes.Units units) t = record { units = refl; radius = t.radius; intol = t.intol; outtol = t.outtol; feed = t.feed; rapid = t.rapid; position = t.position; forward = t.forward }
 note_tells s here (notes.Cutter d) t = record { units = t.units; radius = refl; intol = t.intol; outtol = t.outtol; feed = t.feed; rapid = t.rapid; position = t.position; forward = t.forward }
 note_tells s here (notes.Intol i) t = record { units = t.units; radius = t.radius; intol = refl; outtol = t.outtol; feed = t.feed; rapid = t.rapid; position = t.position; forward = t.forward }
 note_tells s here (notes.Outtol o) t = record { units = t.units; radius = t.radius; intol = t.intol; outtol = refl; feed = t.feed; rapid = t.rapid; position = t.position; forward = t.forward }
 note_tells s here (notes.Feed f) t = record { units = t.units; radius = t.radius; intol = t.intol; outtol = t.outtol; feed = refl; rapid = t.rapid; position = t.position; forward = t.forward }
-note_tells s here (notes.Spindle turn n) t = t
-note_tells s here (notes.Coolant c) t = t
-note_tells s here (notes.Tool n) t = t
+note_tells s here (notes.Do command) t = t
 note_tells s here notes.Rapid t = record { units = t.units; radius = t.radius; intol = t.intol; outtol = t.outtol; feed = t.feed; rapid = refl; position = t.position; forward = t.forward }
-note_tells s here notes.Stop t = t
-note_tells s here notes.OptStop t = t
 note_tells s here notes.End t = t
 note_tells s here notes.Fini t = t
 
@@ -86,10 +82,10 @@ forward_same None to forward = refl
 forward_same (Some from) to forward =
     ap (λ (none : Bool). cond none forward (displacement from.xy to)) (nowhere_by_length (displacement from.xy to))
 
-forward_tells : (s : Saying) (here : Situation) (to : Pt) → IsAsSaid s here → forward_behind here.position to here.forward ≡ forward_to s.position to s.forward
+forward_tells : (s : Told) (here : Situation) (to : Pt) → IsAsSaid s here → forward_behind here.position to here.forward ≡ forward_to s.position to s.forward
 forward_tells s here to t = rw (t.position, t.forward) (forward_same s.position to s.forward)
 
-point_tells : (s : Saying) (here : Situation) (reach : Reach) (to : Position) → IsAsSaid s here → IsAsSaid (with_point s reach to) (after here (effects.Moves reach to) [])
+point_tells : (s : Told) (here : Situation) (reach : Reach) (to : Position) → IsAsSaid s here → IsAsSaid (with_point s reach to) (after here (effects.Moves reach to) [])
 point_tells s here reaches.From to t =
     record { units = t.units; radius = t.radius; intol = t.intol; outtol = t.outtol; feed = t.feed; rapid = t.rapid; position = refl; forward = forward_tells s here to.xy t }
 point_tells s here reaches.Goto to t =
@@ -120,7 +116,7 @@ counted_by_greater t = grind (arith, ints)
 abbrev drive_of : Motion → Drive
 drive_of m = record { surface = m.drive; side = m.side; sense = m.sense }
 
-same_motion : (s : Saying) (here : Situation) (m : Motion) → IsAsSaid s here → IsMotionOf here m → motion_said s m.start (drive_of m) m.check m.how ≡ m
+same_motion : (s : Told) (here : Situation) (m : Motion) → IsAsSaid s here → IsMotionOf here m → motion_said s m.start (drive_of m) m.check m.how ≡ m
 same_motion s here m t is =
     let radius : radius_by s.diameter ≡ m.radius = sym t.radius ∙ sym is.radius in
     let inner : counted s.intol ≡ m.inner = ap counted (sym t.intol) ∙ sym (counted_by_greater here.settings.intol) ∙ sym is.inner in
@@ -128,34 +124,34 @@ same_motion s here m t is =
     rw (sym is.check_side, radius, inner, outer) refl
 
 -- behind them its first leg is due
-abbrev with_surfaces : Saying → Motion → Saying
+abbrev with_surfaces : Told → Motion → Told
 with_surfaces s m = with_record (with_record s (records.Drive m.drive m.side m.sense)) (records.Check m.check m.how)
 
-due_is : (s : Saying) (here : Situation) (m : Motion) → IsAsSaid s here → IsMotionOf here m → (with_surfaces s m).due ≡ Some (first_leg m)
+due_is : (s : Told) (here : Situation) (m : Motion) → IsAsSaid s here → IsMotionOf here m → (with_surfaces s m).due ≡ Some (first_leg m)
 due_is s here m t is = rw (sym t.position ∙ is.start) (ap (λ (n : Motion). Some (first_leg n)) (same_motion s here m t is))
 
 -- a leg is due where the tool stands
-pub record IsDueAt (s : Saying) (d : Due) : Type 0 where
+pub record IsDueAt (s : Told) (d : Due) : Type 0 where
   pub position : s.position ≡ Some d.motion.start
   pub drive : s.drive ≡ Some (drive_of d.motion)
   pub due : s.due ≡ Some d
 
-abbrev next_said : Saying → Due → List Pt → Saying
+abbrev next_said : Told → Due → List Pt → Told
 next_said s d vertices = with_record s (cut_record d.motion.start.z vertices)
 
 -- where the tool stands behind its vertices
-stands_behind : (s : Saying) (d : Due) (vertices : List Pt) → IsDueAt s d → (next_said s d vertices).position ≡ Some (at_height d.motion.start.z (last_of d.motion.start.xy vertices))
+stands_behind : (s : Told) (d : Due) (vertices : List Pt) → IsDueAt s d → (next_said s d vertices).position ≡ Some (at_height d.motion.start.z (last_of d.motion.start.xy vertices))
 stands_behind s d vertices at =
     ap (λ (p : Option Position). last_position p (map (at_height d.motion.start.z) vertices)) at.position ∙ last-at_height d.motion.start.z d.motion.start.xy vertices
 
-next_due_at : (s : Saying) (d : Due) (vertices : List Pt) → IsDueAt s d → IsDueAt (next_said s d vertices) (next_leg d vertices)
+next_due_at : (s : Told) (d : Due) (vertices : List Pt) → IsDueAt s d → IsDueAt (next_said s d vertices) (next_leg d vertices)
 next_due_at s d vertices at = record {
   position = stands_behind s d vertices at;
   drive = at.drive;
   due = ap (λ (o : Option Due). due_behind o (map (at_height d.motion.start.z) vertices)) at.due ∙ ap (λ (ps : List Pt). Some (next_leg d ps)) (at_points-at_height d.motion.start.z vertices);
 }
 
-cut_tells : (s : Saying) (now : Situation) (d : Due) (vertices : List Pt) → IsAsSaid s now → IsDueAt s d → IsAsSaid (next_said s d vertices) (cut_at now d.motion (last_of d.motion.start.xy vertices))
+cut_tells : (s : Told) (now : Situation) (d : Due) (vertices : List Pt) → IsAsSaid s now → IsDueAt s d → IsAsSaid (next_said s d vertices) (cut_at now d.motion (last_of d.motion.start.xy vertices))
 cut_tells s now d vertices t at =
     let there = stands_behind s d vertices at in
     let stands = last_position s.position (map (at_height d.motion.start.z) vertices) in record {
@@ -172,17 +168,17 @@ cut_tells s now d vertices t at =
           ∙ ap (λ (o : Option Drive). forward_there o stands s.forward) (sym at.drive);
     }
 
-cuts_tell : (s : Saying) (now : Situation) (d : Due) (vertices : List Pt) (cuts : List (List Pt)) → IsAsSaid s now → IsDueAt s d
+cuts_tell : (s : Told) (now : Situation) (d : Due) (vertices : List Pt) (cuts : List (List Pt)) → IsAsSaid s now → IsDueAt s d
     → IsAsSaid (said_behind s (map (cut_record d.motion.start.z) (vertices ∷ cuts))) (cut_at now d.motion (last_behind d.motion.start.xy (vertices ∷ cuts)))
 cuts_tell s now d vertices [] t at = cut_tells s now d vertices t at
 cuts_tell s now d vertices (more ∷ cuts) t at =
     cuts_tell (next_said s d vertices) (cut_at now d.motion (last_of d.motion.start.xy vertices)) (next_leg d vertices) more cuts (cut_tells s now d vertices t at) (next_due_at s d vertices at)
 
-contour_is : (s : Saying) (d : Due) (vertices : List Pt) → IsDueAt s d → contour_said s.due (map (at_height d.motion.start.z) vertices) ≡ Some (cut_on d vertices)
+contour_is : (s : Told) (d : Due) (vertices : List Pt) → IsDueAt s d → contour_said s.due (map (at_height d.motion.start.z) vertices) ≡ Some (cut_on d vertices)
 contour_is s d vertices at =
     ap (λ (o : Option Due). contour_said o (map (at_height d.motion.start.z) vertices)) at.due ∙ ap (λ (ps : List Pt). Some (cut_on d ps)) (at_points-at_height d.motion.start.z vertices)
 
-cuts_said : (s : Saying) (d : Due) (cuts : List (List Pt)) (rest : List Record) → IsDueAt s d
+cuts_said : (s : Told) (d : Due) (cuts : List (List Pt)) (rest : List Record) → IsDueAt s d
     → contours_behind s (map (cut_record d.motion.start.z) cuts ++ rest) ≡ legs_from d cuts ++ contours_behind (said_behind s (map (cut_record d.motion.start.z) cuts)) rest
 cuts_said s d [] rest at = refl
 cuts_said s d (vertices ∷ cuts) rest at =
@@ -191,10 +187,10 @@ cuts_said s d (vertices ∷ cuts) rest at =
     ∙ ap (λ (cs : List Contour). cut_on d vertices ∷ cs) (cuts_said (next_said s d vertices) (next_leg d vertices) cuts rest (next_due_at s d vertices at))
 
 -- the legs of a contour, of which there is one at least
-first_due_at : (s : Saying) (here : Situation) (m : Motion) → IsAsSaid s here → IsMotionOf here m → IsDueAt (with_surfaces s m) (first_leg m)
+first_due_at : (s : Told) (here : Situation) (m : Motion) → IsAsSaid s here → IsMotionOf here m → IsDueAt (with_surfaces s m) (first_leg m)
 first_due_at s here m t is = record { position = sym t.position ∙ is.start; drive = refl; due = due_is s here m t is }
 
-contour_tells : (s : Saying) (here : Situation) (m : Motion) (n : Legs) (cuts : List (List Pt)) → IsAsSaid s here → IsMotionOf here m → length cuts ≡ leg_count n
+contour_tells : (s : Told) (here : Situation) (m : Motion) (n : Legs) (cuts : List (List Pt)) → IsAsSaid s here → IsMotionOf here m → length cuts ≡ leg_count n
     → IsAsSaid (said_behind (with_surfaces s m) (map (cut_record m.start.z) cuts)) (after here (effects.Cuts m n) cuts)
 contour_tells s here m legs.One [] t is e = absurd cc
 contour_tells s here m legs.Two [] t is e = absurd cc
@@ -206,11 +202,11 @@ contour_tells s here m n (vertices ∷ cuts) t is e =
 -- ---- the records of a step
 
 -- what the records of an effect say, and the contours among them
-pub record SaysOn (s : Saying) (here : Situation) (step : Step) (e : Effect) (cuts : List (List Pt)) : Type 0 where
+pub record SaysOn (s : Told) (here : Situation) (step : Step) (e : Effect) (cuts : List (List Pt)) : Type 0 where
   pub tells : IsAsSaid (said_behind s (records_of step e cuts)) (after here e cuts)
   pub contours : (rest : List Record) → contours_behind s (records_of step e cuts ++ rest) ≡ contours_by e cuts ++ contours_behind (said_behind s (records_of step e cuts)) rest
 
-still_tells : (s : Saying) (here now : Situation) → IsAsSaid s here → now.settings.units ≡ here.settings.units → now.settings.radius ≡ here.settings.radius → now.settings.intol ≡ here.settings.intol
+still_tells : (s : Told) (here now : Situation) → IsAsSaid s here → now.settings.units ≡ here.settings.units → now.settings.radius ≡ here.settings.radius → now.settings.intol ≡ here.settings.intol
     → now.settings.outtol ≡ here.settings.outtol → now.settings.feed ≡ here.settings.feed → now.settings.rapid ≡ here.settings.rapid → now.position ≡ here.position → now.forward ≡ here.forward → IsAsSaid s now
 still_tells s here now t a b c d e f g h = record {
   units = a ∙ t.units;
@@ -223,7 +219,7 @@ still_tells s here now t a b c d e f g h = record {
   forward = h ∙ t.forward;
 }
 
-pub says_on : (s : Saying) (here : Situation) (step : Step) (e : Effect) (cuts : List (List Pt)) → IsAsSaid s here → effect_of here step.deed ≡ Some e → MayHave e cuts → SaysOn s here step e cuts
+pub says_on : (s : Told) (here : Situation) (step : Step) (e : Effect) (cuts : List (List Pt)) → IsAsSaid s here → effect_of here step.deed ≡ Some e → MayHave e cuts → SaysOn s here step e cuts
 says_on s here step (effects.Defines n f) cuts t asked may =
     record { tells = still_tells s here (after here (effects.Defines n f) cuts) t refl refl refl refl refl refl refl refl; contours = λ rest. refl }
 says_on s here step (effects.Sets (changes.Said note)) cuts t asked may = record { tells = note_tells s here note t; contours = λ rest. refl }
@@ -237,12 +233,12 @@ says_on s here step (effects.Cuts m n) cuts t asked may =
 
 -- ---- the walk
 
-said_behind-append : (s : Saying) (xs ys : List Record) → said_behind s (xs ++ ys) ≡ said_behind (said_behind s xs) ys
+said_behind-append : (s : Told) (xs ys : List Record) → said_behind s (xs ++ ys) ≡ said_behind (said_behind s xs) ys
 said_behind-append s [] ys = refl
 said_behind-append s (x ∷ xs) ys = said_behind-append (with_record s x) xs ys
 
 -- the situation behind records that follow steps is what they say
-told_behind : (Allowed : Effect → List (List Pt) → Type 0) (s : Saying) (here : Situation) (steps : List Step) (written : List Record) (behind : Situation) → IsAsSaid s here
+told_behind : (Allowed : Effect → List (List Pt) → Type 0) (s : Told) (here : Situation) (steps : List Step) (written : List Record) (behind : Situation) → IsAsSaid s here
     → FollowsAs Allowed here steps written behind → IsAsSaid (said_behind s written) behind
 told_behind Allowed s here [] written behind t f = rw (f.0, f.1) t
 told_behind Allowed s here (step ∷ steps) written behind t f =
@@ -267,7 +263,7 @@ every_split P (c ∷ cs) more every =
 abbrev pub EachCut : (Contour → Type 0) → Effect → List (List Pt) → Type 0
 EachCut P e cuts = EveryContour P (contours_by e cuts)
 
-pub contours_are : (P : Contour → Type 0) (s : Saying) (here : Situation) (steps : List Step) (written : List Record) (behind : Situation) → IsAsSaid s here
+pub contours_are : (P : Contour → Type 0) (s : Told) (here : Situation) (steps : List Step) (written : List Record) (behind : Situation) → IsAsSaid s here
     → FollowsAs (EachCut P) here steps written behind → EveryContour P (contours_behind s written)
 contours_are P s here [] written behind t f = rw f.0 tt
 contours_are P s here (step ∷ steps) written behind t f =
@@ -278,7 +274,7 @@ contours_are P s here (step ∷ steps) written behind t f =
     (every_join P (contours_by e f.1) (contours_behind (said_behind s due) f.2) f.4 (contours_are P (said_behind s due) (after here e f.1) steps f.2 behind on.tells f.5))
 
 -- and the other way round
-pub contours_allow : (P : Contour → Type 0) (s : Saying) (here : Situation) (steps : List Step) (written : List Record) (behind : Situation) → IsAsSaid s here
+pub contours_allow : (P : Contour → Type 0) (s : Told) (here : Situation) (steps : List Step) (written : List Record) (behind : Situation) → IsAsSaid s here
     → FollowsAs HasAny here steps written behind → EveryContour P (contours_behind s written) → FollowsAs (EachCut P) here steps written behind
 contours_allow P s here [] written behind t f every = f
 contours_allow P s here (step ∷ steps) written behind t f every =

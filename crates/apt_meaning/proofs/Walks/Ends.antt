@@ -38,7 +38,7 @@ note_ends units (Says saying) note rest said goes_on more = rw said (saying_ends
 note_ends units (Sets side) note rest said goes_on more = absurd said
 note_ends units (Defines name form) note rest said goes_on more = absurd said
 note_ends units (Goes route) note rest said goes_on more = absurd said
-note_ends units (Cuts side go drive how check n) note rest said goes_on more = absurd said
+note_ends units (Cuts contour n) note rest said goes_on more = absurd said
 note_ends units Nothing note rest said goes_on more = absurd said
 
 still_on : (ended : Bool) (rest : List Record) → ended ≡ false → EndsOnce ended rest → EndsOnce false rest
@@ -47,9 +47,6 @@ still_on ended rest e more = subst (λ (b : Bool). EndsOnce b rest) e more
 -- FINI alone asks for the end of the program
 fini_asked : (deed : Deed) → ask_of deed ≡ Says sayings.Fini → deed ≡ deeds.Fini
 fini_asked deeds.Fini e = refl
-fini_asked (deeds.Spindl n turns.Cw) e = absurd cc
-fini_asked (deeds.Spindl n turns.Ccw) e = absurd cc
-fini_asked (deeds.Spindl n turns.Off) e = absurd cc
 fini_asked _ e = absurd cc
 
 change_ends : (here : Situation) (ask : Ask) (step : Step) (change : Change) (cuts : List (List Pt)) (rest : List Record) → IsSaidBy here ask (effects.Sets change)

@@ -9,6 +9,8 @@ use Rattle.apt_words.specs.declared.ask.Form.{Form}
 use Rattle.apt_words.specs.declared.ask.Route.{Route}
 use Rattle.apt_words.specs.declared.ask.Route.TheVariants as routes
 use Rattle.apt_words.specs.declared.ask.Saying.{Saying}
+use Rattle.apt_words.specs.declared.Command.{Command}
+use Rattle.apt_words.specs.declared.Command.TheVariants as commands
 use Rattle.apt_words.specs.declared.ask.Saying.TheVariants as sayings
 use Rattle.apt_words.specs.declared.deed.Deed.{Deed}
 use Rattle.apt_words.specs.declared.deed.Step.{Step}
@@ -42,7 +44,7 @@ use Rattle.apt_meaning.specs.declared.motion.Motion.{Motion}
 use Rattle.apt_stop.specs.declared.legs.Legs.{Legs}
 use Rattle.apt_stop.specs.declared.legs.Legs.TheVariants as legs
 use Rattle.apt_meaning.specs.Cuts.{vertices_of, motions_of}
-use Rattle.apt_meaning.specs.Effects.{note_of, moves, place_at, moved_from, goes, names, defined, effect_by, effect_of}
+use Rattle.apt_meaning.specs.Effects.{rounded, note_of, moves, place_at, moved_from, goes, names, defined, effect_by, effect_of}
 use Rattle.apt_meaning.specs.Refusals.{refusal_of}
 use Rattle.apt_meaning.specs.StartUps.{start_position_at}
 use Rattle.apt_meaning.specs.Records.{with_statement, change_records, cut_record, effect_records, records_of, after}
@@ -57,8 +59,16 @@ use Rattle.apt_meaning.proofs.Walks.Compiled.{done, front_ok, nothing_left, behi
 title_short : (text : List ℕ) → length text ≤ 256 → IsShort (records.Note (notes.Partno text))
 title_short text h = omega (arith, h, length-map text pos)
 
+command_short : (command : Command) → IsShort (records.Note (notes.Do command))
+command_short (commands.Spindle turn n) = omega arith
+command_short (commands.Coolant c) = omega arith
+command_short (commands.Tool n) = omega arith
+command_short commands.Stop = omega arith
+command_short commands.OptStop = omega arith
+
 saying_short : (units : Units) (saying : Saying) → IsShort (records.Note (note_of units saying))
 saying_short units (sayings.Units others) = omega arith
+saying_short units (sayings.Do command) = command_short (rounded command)
 saying_short units _ = omega arith
 
 note_short : (units : Units) (ask : Ask) (note : Note) → AskHasText ask → IsNoteOf units ask note → IsShort (records.Note note)
@@ -67,7 +77,7 @@ note_short units (Says saying) note titled said = rw said (saying_short units sa
 note_short units (Sets side) note titled said = absurd said
 note_short units (Defines name form) note titled said = absurd said
 note_short units (Goes route) note titled said = absurd said
-note_short units (Cuts side go drive how check n) note titled said = absurd said
+note_short units (Cuts contour n) note titled said = absurd said
 note_short units Nothing note titled said = absurd said
 
 drive_short : (s : Surface) (side : Side) (sense : ℤ) → IsShort (records.Drive s side sense)
@@ -126,7 +136,7 @@ ask_asked here (Says saying) = omega arith
 ask_asked here (Sets side) = omega arith
 ask_asked here (Defines name form) = defined_asked here (Defines name form) name form
 ask_asked here (Goes route) = goes_asked here (Goes route) route
-ask_asked here (Cuts side go drive how check n) = any_asked (effect_by here (Cuts side go drive how check n))
+ask_asked here (Cuts contour n) = any_asked (effect_by here (Cuts contour n))
 ask_asked here Nothing = omega arith
 
 asked_by : (here : Situation) (deed : Deed) (e : Effect) → effect_of here deed ≡ Some e → IsAskedBy (ask_of deed) e
@@ -186,8 +196,16 @@ step_vertices step (effects.Cuts m n) = omega (arith, cut_vertices m.start.z (po
 
 -- ---- the bytes of a step
 
+command_bytes : (command : Command) → bytes_in (records.Note (notes.Do command)) ≤ 44
+command_bytes (commands.Spindle turn n) = omega arith
+command_bytes (commands.Coolant c) = omega arith
+command_bytes (commands.Tool n) = omega arith
+command_bytes commands.Stop = omega arith
+command_bytes commands.OptStop = omega arith
+
 saying_bytes : (units : Units) (saying : Saying) → bytes_in (records.Note (note_of units saying)) ≤ 44
 saying_bytes units (sayings.Units others) = omega arith
+saying_bytes units (sayings.Do command) = command_bytes (rounded command)
 saying_bytes units _ = omega arith
 
 note_bytes : (units : Units) (ask : Ask) (note : Note) → IsNoteOf units ask note → bytes_in (records.Note note) ≤ 44 + 8 * asked_title ask
@@ -196,7 +214,7 @@ note_bytes units (Says saying) note said = rw said (omega (arith, saying_bytes u
 note_bytes units (Sets side) note said = absurd said
 note_bytes units (Defines name form) note said = absurd said
 note_bytes units (Goes route) note said = absurd said
-note_bytes units (Cuts side go drive how check n) note said = absurd said
+note_bytes units (Cuts contour n) note said = absurd said
 note_bytes units Nothing note said = absurd said
 
 drive_bytes : (s : Surface) (side : Side) (sense : ℤ) → bytes_in (records.Drive s side sense) ≤ 84

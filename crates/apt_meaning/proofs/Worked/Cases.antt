@@ -1,6 +1,7 @@
 -- Each case, and which comes first where several hold.
 use Rattle.std.specs.Prelude.{◌≡◌, refl, ℕ, ◌*◌, ℤ, pos, neg_ℤ, true, codes, List, [], ◌∷◌, Option, Some, None}
 use Rattle.apt_num.specs.Root.{root}
+use Rattle.apt_words.specs.declared.Command.TheVariants as commands
 use Rattle.apt_words.specs.declared.Case.{Case}
 use Rattle.apt_words.specs.declared.Case.TheVariants as cases
 use Rattle.apt_words.specs.declared.Go.{Go}
@@ -11,6 +12,7 @@ use Rattle.apt_words.specs.declared.Side.TheVariants as sides
 use Rattle.apt_words.specs.declared.Stop.{Stop}
 use Rattle.apt_words.specs.declared.Stop.TheVariants as stops
 use Rattle.apt_words.specs.declared.deed.Deed.TheVariants as deeds
+use Rattle.apt_words.proofs.Contours.{contouring}
 use Rattle.apt_plane.specs.declared.figures.Surface.{Surface}
 use Rattle.apt_plane.specs.declared.figures.Surface.TheVariants as surfaces
 use Rattle.apt_records.specs.declared.record.Position.{Position}
@@ -52,7 +54,7 @@ standing settings position = record { settings = settings; position = position; 
 
 -- to the n-th meeting, with n in millionths
 abbrev counted : ℕ → Situation → Go → List ℕ → Stop → List ℕ → Option Case
-counted n situation go drive how check = refusal_of situation (deeds.Contour None go drive how check (pos n))
+counted n situation go drive how check = refusal_of situation (deeds.Contour (contouring None go drive how check) (pos n))
 
 abbrev contour : Situation → Go → List ℕ → Stop → List ℕ → Option Case
 contour situation go drive how check = counted 1000000 situation go drive how check
@@ -89,22 +91,22 @@ no_feed_at_all : refusal_of (standing held on_track) (deeds.Fedrat (pos 49999)) 
 no_feed_at_all = refl
 
 -- half of a turn is rounded up, and so is half of a tool
-least_speed : refusal_of (standing held on_track) (deeds.Spindl (pos 500000) spins.Ccw) ≡ None
+least_speed : refusal_of (standing held on_track) (deeds.Do (commands.Spindle spins.Ccw (pos 500000))) ≡ None
 least_speed = refl
 
-no_speed_at_all : refusal_of (standing held on_track) (deeds.Spindl (pos 499999) spins.Cw) ≡ Some cases.OutOfRange
+no_speed_at_all : refusal_of (standing held on_track) (deeds.Do (commands.Spindle spins.Cw (pos 499999))) ≡ Some cases.OutOfRange
 no_speed_at_all = refl
 
-spindle_off : refusal_of (standing held on_track) deeds.SpindlOff ≡ None
+spindle_off : refusal_of (standing held on_track) (deeds.Do (commands.Spindle spins.Off (pos 0))) ≡ None
 spindle_off = refl
 
-coolant : refusal_of (standing held on_track) (deeds.Coolnt cools.Mist) ≡ None
+coolant : refusal_of (standing held on_track) (deeds.Do (commands.Coolant cools.Mist)) ≡ None
 coolant = refl
 
-first_tool : refusal_of (standing held on_track) (deeds.Loadtl (pos 500000)) ≡ None
+first_tool : refusal_of (standing held on_track) (deeds.Do (commands.Tool (pos 500000))) ≡ None
 first_tool = refl
 
-no_tool : refusal_of (standing held on_track) (deeds.Loadtl (pos 499999)) ≡ Some cases.OutOfRange
+no_tool : refusal_of (standing held on_track) (deeds.Do (commands.Tool (pos 499999))) ≡ Some cases.OutOfRange
 no_tool = refl
 
 -- ---- moves

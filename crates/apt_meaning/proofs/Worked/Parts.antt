@@ -11,6 +11,7 @@ use Rattle.apt_words.specs.declared.Units.TheVariants as the_units
 use Rattle.apt_words.specs.declared.deed.Deed.{Deed}
 use Rattle.apt_words.specs.declared.deed.Deed.TheVariants as deeds
 use Rattle.apt_words.specs.declared.deed.Step.{Step}
+use Rattle.apt_words.proofs.Contours.{contouring}
 use Rattle.apt_plane.specs.declared.figures.Surface.{Surface}
 use Rattle.apt_plane.specs.declared.figures.Surface.TheVariants as surfaces
 use Rattle.apt_records.specs.declared.record.Note.{Note}
@@ -71,10 +72,10 @@ plate =
     ∷ edge (codes "L1") 0 0 5 0 ∷ edge (codes "L2") 5 0 5 5 ∷ edge (codes "L3") 5 5 0 5 ∷ edge (codes "L4") 0 5 0 0
     ∷ deeds.Fedrat (whole 10) ∷ deeds.FromXy (neg_ℤ (whole 1)) (neg_ℤ (whole 1)) (Some (pos 500000))
     ∷ deeds.GoStart stops.To (codes "L1") (Some (stops.To, codes "L4"))
-    ∷ deeds.Contour (Some sides.Right) turns.Right (codes "L1") stops.Past (codes "L2") (whole 1)
-    ∷ deeds.Contour None turns.Left (codes "L2") stops.Past (codes "L3") (whole 1)
-    ∷ deeds.Contour None turns.Left (codes "L3") stops.Past (codes "L4") (whole 1)
-    ∷ deeds.Contour None turns.Left (codes "L4") stops.Past (codes "L1") (whole 1) ∷ deeds.Fini ∷ []
+    ∷ deeds.Contour (contouring (Some sides.Right) turns.Right (codes "L1") stops.Past (codes "L2")) (whole 1)
+    ∷ deeds.Contour (contouring None turns.Left (codes "L2") stops.Past (codes "L3")) (whole 1)
+    ∷ deeds.Contour (contouring None turns.Left (codes "L3") stops.Past (codes "L4")) (whole 1)
+    ∷ deeds.Contour (contouring None turns.Left (codes "L4") stops.Past (codes "L1")) (whole 1) ∷ deeds.Fini ∷ []
 
 abbrev line : ℤ → ℤ → ℤ → ℤ → Surface
 line x y dx dy = surfaces.Line (record { base = record { x = x; y = y }; dir = record { dx = dx; dy = dy } })
@@ -120,7 +121,7 @@ leg x = records.Contour (position_at x (pos 0) (pos 0) ∷ [])
 
 ring_records : made (deeds.Partno (codes "TWO") ∷ edge (codes "L1") 0 0 1 0 ∷ deeds.CircleXyr (codes "C1") (whole 3) (whole 0) (whole 1) ∷ deeds.Fedrat (whole 10)
     ∷ deeds.FromXy (neg_ℤ (whole 1)) (whole 0) None ∷ deeds.GotoXy (whole 0) (whole 0) None
-    ∷ deeds.Contour None turns.Forward (codes "L1") stops.On (codes "C1") (whole 2) ∷ deeds.Fini ∷ []) ≡
+    ∷ deeds.Contour (contouring None turns.Forward (codes "L1") stops.On (codes "C1")) (whole 2) ∷ deeds.Fini ∷ []) ≡
     Ok (with_note 1 (notes.Partno (codes "TWO")) ++ with_note 4 (notes.Feed (pos 100))
     ++ reached 5 reaches.From (position_at (neg_ℤ (pos 100000)) (pos 0) (pos 0)) ++ reached 6 reaches.Goto (position_at (pos 0) (pos 0) (pos 0))
     ++ records.Statement 7 7 ∷ records.Drive (line (pos 0) (pos 0) (pos 100000) (pos 0)) sides.On (pos 1) ∷ records.Check ring stops.On ∷ leg (pos 200000) ∷ leg (pos 400000)

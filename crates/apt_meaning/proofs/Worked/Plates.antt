@@ -7,6 +7,7 @@ use Rattle.apt_words.specs.declared.Go.TheVariants as turns
 use Rattle.apt_words.specs.declared.Side.TheVariants as sides
 use Rattle.apt_words.specs.declared.Stop.TheVariants as stops
 use Rattle.apt_words.specs.declared.deed.Deed.TheVariants as deeds
+use Rattle.apt_words.proofs.Contours.{contouring}
 use Rattle.apt_plane.specs.declared.figures.Pt.{Pt}
 use Rattle.apt_plane.specs.declared.figures.Line.{Line}
 use Rattle.apt_plane.specs.declared.figures.Surface.TheVariants as surfaces
@@ -98,7 +99,7 @@ along_lower = record {
   outer = pos 50;
 }
 
-pub runs_along : motion_at at_corner None turns.Right (codes "L1") stops.Past (codes "L2") ≡ Some along_lower
+pub runs_along : motion_at at_corner (contouring None turns.Right (codes "L1") stops.Past (codes "L2")) ≡ Some along_lower
 unfolding motion_at
 runs_along = refl
 
@@ -122,18 +123,18 @@ leg = record {
 pub leg_is : leg_of along_lower ≡ leg
 leg_is = refl
 
-unrefused : refusal_of at_corner (deeds.Contour None turns.Right (codes "L1") stops.Past (codes "L2") (pos 1000000)) ≡ None
+unrefused : refusal_of at_corner (deeds.Contour (contouring None turns.Right (codes "L1") stops.Past (codes "L2")) (pos 1000000)) ≡ None
 unfolding root
 unrefused = refl
 
 -- a turn to the other side would need the cutter on the line's left
-turned_left : refusal_of at_corner (deeds.Contour None turns.Left (codes "L1") stops.Past (codes "L2") (pos 1000000)) ≡ Some cases.OffDrive
+turned_left : refusal_of at_corner (deeds.Contour (contouring None turns.Left (codes "L1") stops.Past (codes "L2")) (pos 1000000)) ≡ Some cases.OffDrive
 turned_left = refl
 
 -- no line touches a line
-touches : refusal_of at_corner (deeds.Contour None turns.Right (codes "L1") stops.Tanto (codes "L2") (pos 1000000)) ≡ Some cases.Parallel
+touches : refusal_of at_corner (deeds.Contour (contouring None turns.Right (codes "L1") stops.Tanto (codes "L2")) (pos 1000000)) ≡ Some cases.Parallel
 touches = refl
 
 -- it stands where it is to stop
-stands_there : refusal_of at_corner (deeds.Contour None turns.Right (codes "L1") stops.To (codes "L4") (pos 1000000)) ≡ Some cases.Behind
+stands_there : refusal_of at_corner (deeds.Contour (contouring None turns.Right (codes "L1") stops.To (codes "L4")) (pos 1000000)) ≡ Some cases.Behind
 stands_there = refl

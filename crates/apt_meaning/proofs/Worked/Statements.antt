@@ -1,6 +1,7 @@
 -- What each statement asks for that is no definition.
 use Rattle.std.specs.Prelude.{◌≡◌, refl, ℕ, ◌*◌, ℤ, pos, neg_ℤ, true, codes, List, [], ◌∷◌, Option, Some, None, option_map}
 use Rattle.apt_num.specs.Root.{root}
+use Rattle.apt_words.specs.declared.Command.TheVariants as commands
 use Rattle.apt_words.specs.declared.Cool.TheVariants as cools
 use Rattle.apt_words.specs.declared.Go.TheVariants as turns
 use Rattle.apt_words.specs.declared.Turn.TheVariants as spins
@@ -11,6 +12,7 @@ use Rattle.apt_words.specs.declared.Stop.TheVariants as stops
 use Rattle.apt_words.specs.declared.Units.TheVariants as the_units
 use Rattle.apt_words.specs.declared.deed.Deed.{Deed}
 use Rattle.apt_words.specs.declared.deed.Deed.TheVariants as deeds
+use Rattle.apt_words.proofs.Contours.{contouring}
 use Rattle.apt_plane.specs.declared.figures.Surface.{Surface}
 use Rattle.apt_plane.specs.declared.figures.Surface.TheVariants as surfaces
 use Rattle.apt_records.specs.declared.record.Note.{Note}
@@ -163,28 +165,28 @@ along side = record {
   outer = pos 50;
 }
 
-contour : effect_of standing (deeds.Contour None turns.Forward (codes "L1") stops.To (codes "L2") (pos 1000000)) ≡ Some (effects.Cuts (along sides.Left) legs.One)
+contour : effect_of standing (deeds.Contour (contouring None turns.Forward (codes "L1") stops.To (codes "L2")) (pos 1000000)) ≡ Some (effects.Cuts (along sides.Left) legs.One)
 unfolding root motion_at
 contour = refl
 
 -- to the second meeting it has two legs; a count is the nearest whole number
-contour_twice : effect_of standing (deeds.Contour None turns.Forward (codes "L1") stops.To (codes "L2") (pos 1500000)) ≡ Some (effects.Cuts (along sides.Left) legs.Two)
+contour_twice : effect_of standing (deeds.Contour (contouring None turns.Forward (codes "L1") stops.To (codes "L2")) (pos 1500000)) ≡ Some (effects.Cuts (along sides.Left) legs.Two)
 unfolding root motion_at
 contour_twice = refl
 
-no_third_meeting : effect_of standing (deeds.Contour None turns.Forward (codes "L1") stops.To (codes "L2") (pos 2500000)) ≡ None
+no_third_meeting : effect_of standing (deeds.Contour (contouring None turns.Forward (codes "L1") stops.To (codes "L2")) (pos 2500000)) ≡ None
 unfolding root motion_at
 no_third_meeting = refl
 
 -- the side of the cutter may be given with the motion
-contour_right : effect_of standing (deeds.Contour (Some sides.Right) turns.Forward (codes "L1") stops.To (codes "L2") (pos 1000000)) ≡ Some (effects.Cuts (along sides.Right) legs.One)
+contour_right : effect_of standing (deeds.Contour (contouring (Some sides.Right) turns.Forward (codes "L1") stops.To (codes "L2")) (pos 1000000)) ≡ Some (effects.Cuts (along sides.Right) legs.One)
 unfolding root motion_at
 contour_right = refl
 
 abbrev stopping : Stop → Side → Motion
 stopping how side = record (along side) { how = how; check_side = side_at_check up how (record { x = pos 0; y = pos 12500 }) across (side_at_drive side (pos 1)) }
 
-contour_on : effect_of standing (deeds.Contour (Some sides.On) turns.Forward (codes "L1") stops.On (codes "L2") (pos 1000000)) ≡ Some (effects.Cuts (stopping stops.On sides.On) legs.One)
+contour_on : effect_of standing (deeds.Contour (contouring (Some sides.On) turns.Forward (codes "L1") stops.On (codes "L2")) (pos 1000000)) ≡ Some (effects.Cuts (stopping stops.On sides.On) legs.One)
 unfolding root motion_at
 contour_on = refl
 
@@ -210,10 +212,10 @@ on_line_beside = refl
 rapid : told deeds.Rapid ≡ says (record held { rapid = true }) notes.Rapid
 rapid = refl
 
-halt : told deeds.Halt ≡ says held notes.Stop
+halt : told (deeds.Do commands.Stop) ≡ says held (notes.Do commands.Stop)
 halt = refl
 
-opt_halt : told deeds.OptHalt ≡ says held notes.OptStop
+opt_halt : told (deeds.Do commands.OptStop) ≡ says held (notes.Do commands.OptStop)
 opt_halt = refl
 
 end_word : told deeds.EndWord ≡ says held notes.End
@@ -227,23 +229,23 @@ fedrat : told (deeds.Fedrat (pos 12350000)) ≡ says (record held { feed = pos 1
 fedrat = refl
 
 -- in turns per minute, to the nearest
-spindl : told (deeds.Spindl (pos 1200500000) spins.Cw) ≡ says held (notes.Spindle spins.Cw (pos 1201))
+spindl : told (deeds.Do (commands.Spindle spins.Cw (pos 1200500000))) ≡ says held (notes.Do (commands.Spindle spins.Cw (pos 1201)))
 spindl = refl
 
-spindl_counterclockwise : told (deeds.Spindl (pos 700499999) spins.Ccw) ≡ says held (notes.Spindle spins.Ccw (pos 700))
+spindl_counterclockwise : told (deeds.Do (commands.Spindle spins.Ccw (pos 700499999))) ≡ says held (notes.Do (commands.Spindle spins.Ccw (pos 700)))
 spindl_counterclockwise = refl
 
-spindl_off : told deeds.SpindlOff ≡ says held (notes.Spindle spins.Off (pos 0))
+spindl_off : told (deeds.Do (commands.Spindle spins.Off (pos 0))) ≡ says held (notes.Do (commands.Spindle spins.Off (pos 0)))
 spindl_off = refl
 
-coolnt : told (deeds.Coolnt cools.Mist) ≡ says held (notes.Coolant cools.Mist)
+coolnt : told (deeds.Do (commands.Coolant cools.Mist)) ≡ says held (notes.Do (commands.Coolant cools.Mist))
 coolnt = refl
 
-loadtl : told (deeds.Loadtl (pos 7000000)) ≡ says held (notes.Tool (pos 7))
+loadtl : told (deeds.Do (commands.Tool (pos 7000000))) ≡ says held (notes.Do (commands.Tool (pos 7)))
 loadtl = refl
 
 -- no text gives a number with a spindle that stands: it stands
-spindl_standing : told (deeds.Spindl (pos 7000000) spins.Off) ≡ says held (notes.Spindle spins.Off (pos 0))
+spindl_standing : told (deeds.Do (commands.Spindle spins.Off (pos 7000000))) ≡ says held (notes.Do (commands.Spindle spins.Off (pos 0)))
 spindl_standing = refl
 
 macro : told deeds.Macro ≡ sets held

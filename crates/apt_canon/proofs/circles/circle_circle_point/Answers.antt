@@ -4,8 +4,8 @@ use Rattle.apt_canon.specs.Circles.{circle_circle_point}
 use Rattle.apt_canon.proofs.CircleMeetings.Answers.{on_first, on_second, beyond}
 use Rattle.apt_canon.proofs.circles.circle_circle_point.Goals as goal
 
-value : (c : goal.After-on_common_chord) → c.on_common_chord.result ≡ circle_circle_point c.args.a.now c.args.b.now c.args.sigma
-value c = rw (to_z-of_z w8 c.args.sigma c.ranges.sigma) at c.on_common_chord.ensures
+value : (c : goal.After-circle_circle_point_value) → c.circle_circle_point_value.result ≡ circle_circle_point c.args.a.now c.args.b.now c.args.sigma
+value c = rw (to_z-of_z w8 c.args.sigma c.ranges.sigma) at c.circle_circle_point_value.ensures
 
 pub returns-clause-on_a : goal.returns-clause-on_a
 returns-clause-on_a c =

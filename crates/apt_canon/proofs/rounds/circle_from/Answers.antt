@@ -15,6 +15,6 @@ returns c =
     let fits_sum_x : FitsSigned w64 (p.x +ℤ way.dx) = omega (arith, ints) in
     let fits_sum_y : FitsSigned w64 (p.y +ℤ way.dy) = omega (arith, ints) in
     let fits_length : FitsSigned w64 c.length_near.result = search rules in
-    let value : c.about.result ≡ rounds.circle_of (scale.from p way) c.length_near.result = simp to_z-of_z at c.about.ensures in
+    let value : c.circle_of_value.result ≡ rounds.circle_of (scale.from p way) c.length_near.result = simp to_z-of_z at c.circle_of_value.ensures in
     let length : c.length_near.result ≡ pos (rounds.length_near way) = c.length_near.ensures in
     value ∙ rw length refl

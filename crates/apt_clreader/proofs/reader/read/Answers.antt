@@ -6,4 +6,4 @@ use Rattle.apt_clreader.proofs.reader.read.Goals as goal
 
 pub returns-clause-all : goal.returns-clause-all
 returns-clause-all c = λ rs is of.
-    subst (λ due. IsDueAs (λ v. v.items) fault_in due c.read_exactly.result) (each_again c.args.bytes.now rs is of) c.read_exactly.ensures
+    subst (λ due. IsDueAs (λ v. v.items) fault_in due c.read_value.result) (each_again c.args.bytes.now rs is of) c.read_value.ensures

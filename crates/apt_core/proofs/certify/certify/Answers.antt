@@ -15,4 +15,4 @@ returns g c =
     let e = c.in_ok-evidence.ensures in
     let is = e.evidence in
     judged_certifies (four_names c.args.names) c.in_ok-evidence.evidence.text.items is.0 is.1 is.2 (files_on g.H.Shelf c.args.shelf.now) (files_on g.H.Shelf c.evidence_of.new.shelf) _ e.read is.3
-    (c.judged.ensures is.0 is.1 is.2 is.4)
+    (c.judge_evidence.ensures is.0 is.1 is.2 is.4)

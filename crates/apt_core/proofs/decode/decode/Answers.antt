@@ -19,4 +19,4 @@ returns-in-Ok g c =
     let tabled : table_of table ≡ Ok c.in-Ok.machine = rw c.deref.ensures.value at c.in-Ok.ensures.machine in
     said_decodes n table b.run.0 before two _ (read_on before one two a.read b.read)
     (reads_next before one (input n.machine machine_limit) table (input n.tape file_limit ∷ []) (b.run.0 ∷ []) a.read a.text (b.run.1, tt))
-    (c.decoded.ensures c.in-Ok.machine table b.run.0 c.none-none.result tabled b.run.2)
+    (c.list_acts.ensures c.in-Ok.machine table b.run.0 c.none-none.result tabled b.run.2)

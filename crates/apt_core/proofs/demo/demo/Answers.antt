@@ -11,7 +11,7 @@ returns-in-Done g c =
     let store = c.in_ok-store.store in
     let middle = c.compile.new.shelf in
     let done : answer_of c.compile.result ≡ answers.Done s = sym c.status_of.ensures ∙ c.in-Done.is in
-    rw (c.shown.ensures, c.status_of-in-Done.ensures)
+    rw (c.demo_answer.ensures, c.status_of-in-Done.ensures)
     (verdict_shown c.args.n (files_of store) (files_of middle) (files_of c.certify.new.shelf) _ _ _ s (answer_of c.certify.result) c.in_ok-store.ensures.holds c.in_ok-store.ensures.short
     (rw done at c.compile.ensures) c.certify.ensures)
 

@@ -42,4 +42,4 @@ returns g c =
     watched_guards n name c.in_ok-evidence.evidence.text.items is.0 is.1 is.2 outline before two _ (read_on before one two e.read t.read)
     (reads_both before.told (inputs n) (input name outline_limit ∷ []) (c.in_ok-evidence.evidence.text.items ∷ is.0 ∷ is.1 ∷ is.2 ∷ []) (outline ∷ []) is.3
     (subst (λ told. ReadsAll told (input name outline_limit ∷ []) (outline ∷ [])) e.read.files (t.text, tt)))
-    (rw c.deref.ensures.value at c.guarded.ensures is.0 is.1 is.2 is.4)
+    (rw c.deref.ensures.value at c.guard_evidence.ensures is.0 is.1 is.2 is.4)

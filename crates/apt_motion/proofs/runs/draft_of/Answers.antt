@@ -6,6 +6,7 @@ use Rattle.apt_meaning.specs.Situations.{first_situation}
 use Rattle.apt_meaning.specs.Ranges.{IsSituation}
 use Rattle.apt_motion.specs.Drafts.{behind, draft_from}
 use Rattle.apt_motion.proofs.Walks.{fit}
+use Rattle.apt_motion.proofs.Taken.{taken_down}
 use Rattle.apt_motion.proofs.Drafted.{draws_on, stops_at}
 use Rattle.apt_motion.proofs.runs.draft_of.Goals as goal
 
@@ -22,25 +23,12 @@ steps-preserved c =
     let scalars = subst AreScalars rest c.steps.invariant.scalars in
     let sources = subst AreExecuted rest c.steps.invariant.sources in
     let e = c.in-Ok.ensures.0 in
-    let drawn = c.in-Ok.ensures.1 in
-    let fits = fit here st.deed e c.steps.invariant.situation scalars.0 sources.0.text drawn.asks in
+    let done = c.in-Ok.ensures.1 in
+    let drawn = taken_down (λ d. d.records.items) (λ d. d.rounds.items) (λ d. d.room) c.steps.draft c.act.new.pen st e done.taken in
     record {
-      so_far = rw (drawn.after, drawn.records, drawn.rounds) (draws_on records rounds here st (drop (i + 1) xs) e (draft_from first_situation xs) drawn.asks so_far);
-      situation = subst IsSituation (sym drawn.after) fits.behind;
+      so_far = rw (done.after, drawn.records, drawn.rounds) (draws_on records rounds here st (drop (i + 1) xs) e (draft_from first_situation xs) done.asks so_far);
+      room = drawn.room c.steps.invariant.room;
+      situation = subst IsSituation (sym done.after) (fit here st.deed e c.steps.invariant.situation scalars.0 sources.0.text done.asks);
       scalars = scalars.1;
       sources = sources.1;
     }
-
-pub returns-in-Err-Refused : goal.returns-in-Err-Refused
-returns-in-Err-Refused c =
-    let xs = c.args.steps.now in
-    let i = c.steps.st-index in
-    let st = c.st-item.result in
-    let here = c.steps.here in
-    let rest : drop i xs ≡ st ∷ drop (i + 1) xs = drop_more xs i st c.steps-test.true ∙ ap (λ x. x ∷ drop (i + 1) xs) (sym c.st-item.is) in
-    let records = c.steps.draft.records.items in
-    let rounds = c.steps.draft.rounds.items in
-    let so_far = subst (λ ss. behind records rounds (draft_from here ss) ≡ draft_from first_situation xs) rest c.steps.invariant.so_far in
-    rw c.in-Err-Refused.refusal-is
-    (stops_at records c.advance.new.draft.records.items rounds c.advance.new.draft.rounds.items here st (drop (i + 1) xs) c.in-Err-Refused.field-0 c.in-Err-Refused.refusal (draft_from first_situation xs)
-    c.in-Err-Refused.field-0-is c.in-Err-Refused.ensures so_far)

@@ -26,4 +26,4 @@ returns-in_err-read_head-in-Head-clause-value c = λ file stands.
 
 pub returns-in-Nothing-clause-value : goal.returns-in-Nothing-clause-value
 returns-in-Nothing-clause-value c = λ file stands.
-    subst (λ due. IsDueAs (λ v. v.items) spec.fault_in due c.counted.result) (sym (none_of_file c.args.self file stands c.in-Nothing.is)) c.counted.ensures.value
+    subst (λ due. IsDueAs (λ v. v.items) spec.fault_in due c.check_count.result) (sym (none_of_file c.args.self file stands c.in-Nothing.is)) c.check_count.ensures.value
