@@ -17,16 +17,17 @@
 #include <stdio.h>
 #include <stdlib.h>
 #include <string.h>
+#include <sys/file.h>
 #include <sys/mman.h>
 #include <sys/stat.h>
 #include <sys/syscall.h>
 #include <sys/uio.h>
 #include <unistd.h>
 
-enum kind { NONE, ALLOC, OPEN, STAT, READ, READ_ONE, WRITE, WRITE_HALF, WRITE_ONE, TRUNCATE, SYNC, CLOSE, RENAME, INTERRUPT, THREAD, SIGNAL, KINDS };
+enum kind { NONE, ALLOC, OPEN, STAT, READ, READ_ONE, WRITE, WRITE_HALF, WRITE_ONE, TRUNCATE, SYNC, CLOSE, RENAME, LOCK, REMOVE, INTERRUPT, THREAD, SIGNAL, KINDS };
 
 static const char *const names[KINDS] = {
-    "", "alloc", "open", "stat", "read", "read-one", "write", "write-half", "write-one", "truncate", "sync", "close", "rename", "interrupt", "thread", "signal",
+    "", "alloc", "open", "stat", "read", "read-one", "write", "write-half", "write-one", "truncate", "sync", "close", "rename", "lock", "remove", "interrupt", "thread", "signal",
 };
 
 static enum kind kind;
@@ -279,7 +280,15 @@ int rename(const char *from, const char *to) {
 
 int unlink(const char *path) {
     moment();
+    REFUSE(REMOVE, EIO, -1);
     return NEXT(unlink)(path);
+}
+
+/* Files that are held. */
+int flock(int fd, int how) {
+    moment();
+    REFUSE(LOCK, ENOLCK, -1);
+    return NEXT(flock)(fd, how);
 }
 
 /* Threads that are started. */

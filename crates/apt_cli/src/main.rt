@@ -2,12 +2,12 @@
 #![tactic(auto)]
 
 use apt_core::{OpenGate, Status, apt};
-use apt_folder::{FolderShelf, StdSink};
+use apt_folder::{FolderShelf, HoldFiles, StdSink};
 use apt_shelf::{MemSink, ShelfFault, Sink};
 use std::alloc::AllocGlobal;
 use std::io::ErrorKind;
 use std::process::ExitCode;
-use std::rt::{Env, Files};
+use std::rt::Env;
 use std::thread::Threads;
 use std::{env, fs};
 
@@ -76,7 +76,7 @@ fn is_compile(words: &[String]) -> bool {
 }
 
 /// Compiles a part. Its line is kept in memory until both files are in their places.
-fn compile<R: Files + Print + AllocGlobal + Threads + Sync>(
+fn compile<R: HoldFiles + Print + AllocGlobal + Threads + Sync>(
     rt: &R,
     words: &[String],
     shelf: &mut FolderShelf<'_, R>,
@@ -93,7 +93,7 @@ fn compile<R: Files + Print + AllocGlobal + Threads + Sync>(
 
 /// Puts the files in their places where both are whole, else removes what was made of them, and
 /// then puts the line.
-fn end<R: Files + Print>(
+fn end<R: HoldFiles + Print>(
     rt: &R,
     shelf: &mut FolderShelf<'_, R>,
     status: &Status,

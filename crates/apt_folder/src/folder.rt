@@ -4,7 +4,9 @@ ghost use Rattle.std.specs.String.{string_bytes};
 ghost use Rattle.apt_shelf.specs.Told.{FaultCause};
 ghost use Rattle.apt_folder.specs.Folder.{folder_of, path_in};
 
-use crate::outputs::{self, FileId, Output};
+use crate::draft::FileId;
+use crate::hold::HoldFiles;
+use crate::outputs::{self, Output};
 use apt_shelf::{ReadStart, Shelf, ShelfFault};
 use std::alloc::{AllocError, Global};
 use std::fs::{self, OpenFile};
@@ -17,6 +19,9 @@ use std::rt::Files;
 /// What is written lies beside its place until `settle` puts it there, or `discard` removes it: one of
 /// them ends the writing. In its place is written at once a device or a pipe, a file to which the
 /// name is a link or that has several names, and one beside which no file like it can be made.
+///
+/// A run holds what it has beside a place. What no run holds there was left by one that was ended:
+/// `settle` and `discard` remove it beside each output, but for files that were opened.
 ///
 /// A file that was opened is never written, nor is what standard output leads to: where a name leads
 /// there, by any path or link, `start_write` answers `Fault`, the count of writing faults rises, and
@@ -35,7 +40,7 @@ pub struct FolderShelf<'a, R: Files> {
     writing: Option<String>,
 }
 
-impl<'a, R: Files> FolderShelf<'a, R> {
+impl<'a, R: HoldFiles> FolderShelf<'a, R> {
     /// The files of this folder.
     pub fn new(rt: &'a R, alloc: Global, folder: &str) -> Result<FolderShelf<'a, R>, AllocError>
         ensures folder { IfOk result (λ shelf. folder_of shelf ≡ folder.now) }
@@ -102,7 +107,7 @@ impl<'a, R: Files> FolderShelf<'a, R> {
         ensures folder { folder_of self.new ≡ folder_of self.old }
     {
         self.writing = None;
-        outputs::remove_all(self.rt, &mut self.outputs);
+        outputs::remove_all(self.rt, self.alloc, &mut self.outputs, &self.opened);
     }
 }
 
@@ -151,7 +156,7 @@ fn read_some<F: Read>(file: &mut F, buf: &mut [u8]) -> io::Result<usize>
     Err(io::Error::from(ErrorKind::Interrupted))
 }
 
-impl<'a, R: Files> Shelf for FolderShelf<'a, R> {
+impl<'a, R: HoldFiles> Shelf for FolderShelf<'a, R> {
     ghost use Rattle.std.specs.String.{string_bytes};
 
     ghost told = { λ _. None };

@@ -1,29 +1,12 @@
 //! Files of a folder that are written: beside their places, until all of them are whole.
+use crate::draft::{Draft, FileId, clear_beside, make_beside, open_new};
+use crate::hold::HoldFiles;
 use apt_shelf::ShelfFault;
 use std::alloc::{AllocError, Global};
 use std::fs::{self, Metadata, OpenFile, OpenOptions};
 use std::io::{self, ErrorKind, Write};
 use std::os::unix::fs::MetadataExt;
 use std::rt::Files;
-
-/// How many names are tried for a file beside a place.
-const NAMES: u32 = 9999;
-
-/// Which file it is, under whatever name. Under a runtime that numbers no files all are alike.
-#[derive(Clone, Copy, PartialEq, Eq)]
-pub(crate) struct FileId {
-    device: u64,
-    inode: u64,
-}
-
-impl FileId {
-    pub(crate) fn of(file: &Metadata) -> FileId {
-        FileId {
-            device: file.dev(),
-            inode: file.ino(),
-        }
-    }
-}
 
 /// A file that is written.
 #[derive(Drop)]
@@ -40,17 +23,9 @@ pub(crate) struct Output<F> {
     draft: Option<Draft<F>>,
 }
 
-/// A file beside the place of an output.
-#[derive(Drop)]
-struct Draft<F> {
-    file: F,
-    path: String,
-    id: FileId,
-}
-
 /// Begins to write what a path leads to, which must be none of the files that were opened. It is
 /// opened with its bytes: they stay until the output is put in its place, or else are dropped now.
-pub(crate) fn begin<R: Files>(
+pub(crate) fn begin<R: HoldFiles>(
     rt: &R,
     alloc: Global,
     path: String,
@@ -93,16 +68,8 @@ fn open_place<R: Files>(rt: &R, path: &str) -> io::Result<(R::File, bool)> {
     }
 }
 
-/// A file that was not there before.
-fn open_new<R: Files>(rt: &R, path: &str) -> io::Result<R::File> {
-    OpenOptions::new()
-        .write(true)
-        .create_new(true)
-        .open(rt, path)
-}
-
 /// Finds out what was opened, and makes a file beside it, or empties it.
-fn prepare<R: Files>(
+fn prepare<R: HoldFiles>(
     rt: &R,
     alloc: Global,
     output: &mut Output<R::File>,
@@ -140,66 +107,6 @@ fn is_alone<R: Files>(rt: &R, path: &str, found: &Metadata) -> Result<bool, Shel
     }
     let named = fs::symlink_metadata(rt, path)?;
     Ok(found.nlink() == 1 && FileId::of(&named) == id)
-}
-
-/// A new file beside a path, with the permissions of the one there. `None` where none can be made
-/// that is like it.
-fn make_beside<R: Files>(
-    rt: &R,
-    alloc: Global,
-    path: &str,
-    found: &Metadata,
-) -> Result<Option<Draft<R::File>>, ShelfFault> {
-    let Some((file, path)) = open_beside(rt, alloc, path)? else {
-        return Ok(None);
-    };
-    match make_alike(&file, found) {
-        Ok(Some(id)) => Ok(Some(Draft { file, path, id })),
-        Ok(None) => {
-            fs::remove_file(rt, &path)?;
-            Ok(None)
-        }
-        Err(error) => {
-            let _ = fs::remove_file(rt, &path);
-            Err(ShelfFault::from(error))
-        }
-    }
-}
-
-/// A new file beside a path, under the first name that is free. `None` where the system lets no
-/// file be made there, or the name is too long.
-fn open_beside<R: Files>(
-    rt: &R,
-    alloc: Global,
-    path: &str,
-) -> Result<Option<(R::File, String)>, ShelfFault> {
-    for number in 1..=NAMES {
-        let beside = format!(in alloc; "{path}.unfinished-{number}")?;
-        match open_new(rt, beside.as_str()) {
-            Ok(file) => return Ok(Some((file, beside))),
-            Err(error) => match error.kind() {
-                ErrorKind::AlreadyExists => {}
-                ErrorKind::PermissionDenied
-                | ErrorKind::ReadOnlyFilesystem
-                | ErrorKind::InvalidFilename => return Ok(None),
-                _ => return Err(ShelfFault::from(error)),
-            },
-        }
-    }
-    Err(ShelfFault::Fault)
-}
-
-/// Gives a file the permissions of another, and says which one it is; `None` where it can't have
-/// them, or has another user or group.
-fn make_alike<F: OpenFile>(file: &F, found: &Metadata) -> io::Result<Option<FileId>> {
-    let made = file.metadata()?;
-    if made.uid() != found.uid() || made.gid() != found.gid() {
-        return Ok(None);
-    }
-    if made.mode() != found.mode() && file.set_permissions(found.permissions()).is_err() {
-        return Ok(None);
-    }
-    Ok(Some(FileId::of(&made)))
 }
 
 /// Adds bytes to the last output.
@@ -241,10 +148,19 @@ pub(crate) fn put_in_place<R: Files>(
     Ok(())
 }
 
-/// Removes what was made for outputs that are not in their places, and forgets them all.
-pub(crate) fn remove_all<R: Files>(rt: &R, outputs: &mut Vec<Output<R::File>>) {
+/// Removes what was made for outputs that are not in their places, and what earlier runs left
+/// beside the places, and forgets all outputs.
+pub(crate) fn remove_all<R: HoldFiles>(
+    rt: &R,
+    alloc: Global,
+    outputs: &mut Vec<Output<R::File>>,
+    opened: &[FileId],
+) {
     for output in outputs.iter() {
         remove(rt, output);
+        if output.is_regular {
+            let _ = clear_beside(rt, alloc, &output.path, opened);
+        }
     }
     outputs.clear();
 }

@@ -1,6 +1,6 @@
 //! The store over real files: what it reads and writes, and what the system refuses, which is told and counted once.
 
-use apt_folder::{FolderShelf, StdSink};
+use apt_folder::{FolderShelf, HoldFiles, StdSink};
 use apt_shelf::{ReadError, Shelf, ShelfFault, Sink, read_all, write_all};
 use std::alloc::{AllocGlobal, Global};
 use std::fs::{self, Permissions};
@@ -12,7 +12,7 @@ use std::test::Fail;
 /// How often reading has failed so far, and how often writing has.
 type Faults = (u64, u64);
 
-fn faults<F: Files>(shelf: &FolderShelf<'_, F>) -> Faults {
+fn faults<F: HoldFiles>(shelf: &FolderShelf<'_, F>) -> Faults {
     (shelf.read_faults(), shelf.write_faults())
 }
 
@@ -20,7 +20,7 @@ fn faults<F: Files>(shelf: &FolderShelf<'_, F>) -> Faults {
 const MOST: usize = 10_000;
 
 /// Names hold these bytes.
-fn assert_hold<R: Abort + AllocGlobal, F: Files>(
+fn assert_hold<R: Abort + AllocGlobal, F: HoldFiles>(
     rt: &R,
     shelf: &mut FolderShelf<'_, F>,
     names: &[&str],
@@ -36,7 +36,7 @@ fn assert_hold<R: Abort + AllocGlobal, F: Files>(
 }
 
 /// Bytes are written under names.
-fn assert_take<R: Abort, F: Files>(
+fn assert_take<R: Abort, F: HoldFiles>(
     rt: &R,
     shelf: &mut FolderShelf<'_, F>,
     names: &[&str],
@@ -48,7 +48,7 @@ fn assert_take<R: Abort, F: Files>(
 }
 
 /// Names are not begun to be written.
-fn assert_spare<R: Abort, F: Files>(rt: &R, shelf: &mut FolderShelf<'_, F>, names: &[&str]) {
+fn assert_spare<R: Abort, F: HoldFiles>(rt: &R, shelf: &mut FolderShelf<'_, F>, names: &[&str]) {
     for name in names {
         assert!(rt; shelf.start_write(name) == Err(ShelfFault::Fault), "{name}");
     }
@@ -64,7 +64,7 @@ enum Deed {
 }
 
 /// What comes of it.
-fn tried<F: Files>(
+fn tried<F: HoldFiles>(
     alloc: Global,
     shelf: &mut FolderShelf<'_, F>,
     deed: Deed,
@@ -183,6 +183,7 @@ fn a_file_of_several_pieces_is_read_whole(rt: HostRuntime) -> Result<(), Fail> {
         let mut shelf = FolderShelf::new(&rt, rt.alloc(), ".")?;
         assert_take(&rt, &mut shelf, &["apt_pieces_test"], &bytes);
         assert_hold(&rt, &mut shelf, &["apt_pieces_test"], &bytes);
+        shelf.settle()?;
         fs::remove_file(&rt, "apt_pieces_test")?;
     }
     Ok(())
@@ -195,6 +196,7 @@ fn folder_keeps_files(rt: HostRuntime) -> Result<(), Fail> {
     assert_hold(&rt, &mut shelf, &["apt_shelf_test.txt"], b"hello");
     assert_spare(&rt, &mut shelf, &["no_folder/file"]);
     assert_hold(&rt, &mut shelf, &["/dev/null"], b"");
+    shelf.settle()?;
     fs::remove_file(&rt, "apt_shelf_test.txt")?;
     Ok(())
 }
@@ -231,6 +233,52 @@ fn folder_spares_what_it_opened(rt: HostRuntime) -> Result<(), Fail> {
     assert_spare(&rt, &mut shelf, &["tape"]);
     assert!(rt; faults(&shelf) == (0, 8));
     assert_hold(&rt, &mut shelf, &["tape", "new"], b"%");
+    fs::remove_dir_all(&rt, "apt_shelf_test")?;
+    Ok(())
+}
+
+/// Whether there is something under names.
+fn assert_there<R: Abort + Files>(rt: &R, names: &[&str], want: bool) -> Result<(), Fail> {
+    for name in names {
+        let found = fs::exists(rt, *name)?;
+        assert!(rt; found == want, "{name}");
+    }
+    Ok(())
+}
+
+/// What lies in the folder under the names of drafts, which no run is at work on.
+const LEFT: [&str; 4] = [
+    "apt_shelf_test/tape.unfinished-1",
+    "apt_shelf_test/tape.unfinished-2",
+    "apt_shelf_test/tape.unfinished-4",
+    "apt_shelf_test/new.unfinished-16",
+];
+
+#[test]
+fn what_was_left_beside_outputs_is_cleared(rt: HostRuntime) -> Result<(), Fail> {
+    make_folder(&rt)?;
+    for name in LEFT {
+        fs::write(&rt, name, "left")?;
+    }
+    fs::create_dir(&rt, "apt_shelf_test/tape.unfinished-3")?;
+    let mut shelf = FolderShelf::new(&rt, rt.alloc(), "apt_shelf_test")?;
+    assert_hold(&rt, &mut shelf, &["tape.unfinished-2"], b"left");
+    assert_take(&rt, &mut shelf, &["tape", "new"], b"%");
+    let mut other = FolderShelf::new(&rt, rt.alloc(), "apt_shelf_test")?;
+    assert_take(&rt, &mut other, &["tape"], b"+");
+    shelf.settle()?;
+    let gone = [LEFT[0], LEFT[2], LEFT[3]];
+    assert_there(&rt, &gone, false)?;
+    // an input, a folder, and what another run is at work on
+    let kept = [
+        LEFT[1],
+        "apt_shelf_test/tape.unfinished-3",
+        "apt_shelf_test/tape.unfinished-6",
+    ];
+    assert_there(&rt, &kept, true)?;
+    other.settle()?;
+    assert_there(&rt, &[kept[0], kept[2]], false)?;
+    assert_hold(&rt, &mut shelf, &["tape"], b"+");
     fs::remove_dir_all(&rt, "apt_shelf_test")?;
     Ok(())
 }
