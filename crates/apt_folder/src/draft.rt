@@ -12,7 +12,7 @@ const NAMES: u32 = 9999;
 
 /// How many of them are looked at for what was left, even where nothing lies under them: fewer runs
 /// write at one place at once.
-const LOOKED_AT: u32 = 16;
+const LOOKED_AT: u32 = 4;
 
 /// Which file it is, under whatever name. Under a runtime that numbers no files all are alike.
 #[derive(Clone, Copy, PartialEq, Eq)]

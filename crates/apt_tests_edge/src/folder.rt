@@ -251,7 +251,7 @@ const LEFT: [&str; 4] = [
     "apt_shelf_test/tape.unfinished-1",
     "apt_shelf_test/tape.unfinished-2",
     "apt_shelf_test/tape.unfinished-4",
-    "apt_shelf_test/new.unfinished-16",
+    "apt_shelf_test/new.unfinished-4",
 ];
 
 #[test]
